@@ -49,6 +49,9 @@ NAMES = {
         {"C": "of", "C++": "from", "Python": "()"},
     "InvertedIndex.from_pairs": {"C": "of", "C++": "from", "Python": "()"},
     "InvertedIndex.union": {"C++": "either"},
+    "InvertedIndex.intersection_of": {"Python": "intersection"},
+    "InvertedIndex.union_of": {"Python": "union"},
+    "InvertedIndex.difference_of": {"Python": "difference"},
     "TextIndex.bytes_with_step WaveletMatrix.from_integers": {"C": "of_bytes", "C++": "from", "Python": "()"},
     "TextIndex.u16s_with_step": {"C": "of_u16s", "C++": "from", "Python": "()"},
     "*Rmq.item *Rmq.as_slice": {"C": "get", "C++": "get", "Rust": "[]", "Python": "[]"},
@@ -76,8 +79,7 @@ LEFT_OUT = {
     "A structure is made from an array, and its items are written to one.":
         """RsVec.into_bit_vec RsVec.*_equals BpTree.into_parentheses_vec SparseRSVec.from_* *.from_iter
         EliasFanoVec.from_numbers InvertedIndex.from_source TextIndex.from_* TextIndex.*_with_step""",
-    "Combined documents of terms are plain numbers; in C and C++ a call combines two terms.":
-        "InvertedIndex.*_of InvertedIndex.*n_numbers InvertedIndex.difference_numbers",
+    "Combined documents of terms are plain numbers.": "InvertedIndex.*n_numbers InvertedIndex.difference_numbers",
     "They are for saved forms, which C, C++ and Python load and save as a whole.":
         """TextIndex.column TextIndex.whole_row TextIndex.kept_len TextIndex.kept_row WaveletMatrix.level
         EliasFanoVec.ends EliasFanoVec.low_parts EliasFanoVec.high_parts EliasFanoVec.from_parts SparseRSVec.ones

@@ -545,34 +545,46 @@ static bool has_pair(const bool *table, size_t universe, uint64_t term, uint64_t
     return term < 5 && document < universe && table[term * universe + document];
 }
 
-/* Compares a list of documents with those below `universe` for which a table of two terms is as a list of two says. */
-static void test_documents(const vers_numbers *list, const bool *table, size_t universe, uint64_t one, uint64_t other,
+/* Compares a list of documents with those below `universe` that a list of `count` terms has by a table, and frees it. */
+static void test_documents(vers_numbers *list, const bool *table, size_t universe, const uint64_t *terms, size_t count,
                            enum vers_joint joint) {
     uint64_t k = 0;
     for (uint64_t d = 0; d < universe; d++) {
-        bool first = has_pair(table, universe, one, d), second = has_pair(table, universe, other, d);
-        bool is_listed = joint == VERS_UNION ? first || second : first && second == (joint == VERS_INTERSECTION);
-        if (is_listed) found("document of two", d, vers_numbers_get(list, k), d), k++;
+        bool first = has_pair(table, universe, terms[0], d), some = false, all = true;
+        for (size_t t = 1; t < count; t++) {
+            bool has = has_pair(table, universe, terms[t], d);
+            some = some || has;
+            all = all && has;
+        }
+        bool is_listed = joint == VERS_UNION ? first || some : first && (joint == VERS_INTERSECTION ? all : !some);
+        if (is_listed) found("document of several", d, vers_numbers_get(list, k), d), k++;
     }
-    found("documents of two", one, vers_numbers_len(list), k);
+    found("documents of several", terms[0], vers_numbers_len(list), k);
+    vers_numbers_free(list);
 }
 
-/* The lists of two terms of an index, by the calls for each. */
+/* The lists of up to three terms of an index, by the calls for each. */
 static void test_joined(const vers_inverted *index, const bool *table, size_t universe) {
-    for (uint64_t one = 0; one < 6; one++)
-        for (uint64_t other = 0; other < 6; other++) {
-            vers_numbers both = {0}, either = {0}, first = {0};
-            is("intersection", vers_inverted_intersection(index, one, other, &both), VERS_DONE);
-            is("union", vers_inverted_union(index, one, other, &either), VERS_DONE);
-            is("difference", vers_inverted_difference(index, one, other, &first), VERS_DONE);
-            test_documents(&both, table, universe, one, other, VERS_INTERSECTION);
-            test_documents(&either, table, universe, one, other, VERS_UNION);
-            test_documents(&first, table, universe, one, other, VERS_DIFFERENCE);
-            is("into a full one", vers_inverted_union(index, one, other, &either), VERS_OCCUPIED);
-            vers_numbers_free(&both);
-            vers_numbers_free(&either);
-            vers_numbers_free(&first);
+    vers_numbers both = {0}, either = {0}, first = {0};
+    for (uint64_t number = 0; number < 6 * 6 * 6; number++) {
+        const uint64_t terms[] = {number % 6, number / 6 % 6, number / 36};
+        is("intersection of two", vers_inverted_intersection(index, terms[0], terms[1], &both), VERS_DONE);
+        is("union of two", vers_inverted_union(index, terms[0], terms[1], &either), VERS_DONE);
+        is("difference of two", vers_inverted_difference(index, terms[0], terms[1], &first), VERS_DONE);
+        is("into a full one", vers_inverted_union(index, terms[0], terms[1], &either), VERS_OCCUPIED);
+        test_documents(&both, table, universe, terms, 2, VERS_INTERSECTION);
+        test_documents(&either, table, universe, terms, 2, VERS_UNION);
+        test_documents(&first, table, universe, terms, 2, VERS_DIFFERENCE);
+        for (size_t count = 1; count <= 3; count++) {
+            is("intersection", vers_inverted_intersection_of(index, terms, count, &both), VERS_DONE);
+            is("union", vers_inverted_union_of(index, terms, count, &either), VERS_DONE);
+            is("difference", vers_inverted_difference_of(index, terms, count, &first), VERS_DONE);
+            test_documents(&both, table, universe, terms, count, VERS_INTERSECTION);
+            test_documents(&either, table, universe, terms, count, VERS_UNION);
+            test_documents(&first, table, universe, terms, count, VERS_DIFFERENCE);
         }
+    }
+    is("union of no terms", vers_inverted_union_of(index, NULL, 0, &either), VERS_REFUSED);
 }
 
 /* The documents of each term of an index, by queries and in a list. */
@@ -653,10 +665,10 @@ static void test_no_index(void) {
     compare("no terms", 0, vers_inverted_terms(&index), VERS_VACANT, 0);
     is("sorted", vers_sorted_of(&sorted, &word, 1), VERS_DONE);
     is("documents of a sorted", vers_documents(&sorted.handle, 0, &list.handle), VERS_REFUSED);
-    is("joined of a sorted", vers_joined(&sorted.handle, VERS_UNION, 0, 1, &list.handle), VERS_REFUSED);
+    is("joined of a sorted", vers_joined(&sorted.handle, VERS_UNION, &word, 1, &list.handle), VERS_REFUSED);
     vers_sorted_free(&sorted);
     is("inverted", vers_inverted_of(&index, 1, 1, &word, &word, 1), VERS_DONE);
-    is("no such joint", vers_joined(&index.handle, 3, 0, 0, &list.handle), VERS_REFUSED);
+    is("no such joint", vers_joined(&index.handle, 3, &word, 1, &list.handle), VERS_REFUSED);
     vers_inverted_free(&index);
     vers_inverted_free(NULL);
 }

@@ -61,7 +61,10 @@ static uint32_t places(vers_handle *handle) { return vers_places(&texts, numbers
 static uint32_t first_places(vers_handle *handle) { return vers_first_places(&texts, numbers, 0, COUNT, handle); }
 static uint32_t extract(vers_handle *handle) { return vers_extract(&texts, 1, COUNT, handle); }
 static uint32_t documents(vers_handle *handle) { return vers_documents(&lists, 3, handle); }
-static uint32_t joined(vers_handle *handle) { return vers_joined(&lists, VERS_UNION, 0, 3, handle); }
+static uint32_t joined(vers_handle *handle) {
+    static const uint64_t terms[] = {0, 3, 5};
+    return vers_joined(&lists, VERS_UNION, terms, 3, handle);
+}
 static uint32_t clone(vers_handle *handle) { return vers_clone(&one, handle); }
 static uint32_t intersect(vers_handle *handle) { return vers_intersect(&one, &two, handle); }
 

@@ -143,11 +143,11 @@ enum vers_change_code {
     VERS_DROP_LAST = 3 /**< Drops the last a bits. */
 };
 
-/** The documents of two terms of a vers_inverted that vers_joined lists. */
+/** The documents of several terms of a vers_inverted that vers_joined lists. */
 enum vers_joint {
-    VERS_INTERSECTION = 0, /**< Those that have both terms. */
-    VERS_UNION = 1,        /**< Those that have one of the terms, or both. */
-    VERS_DIFFERENCE = 2    /**< Those that have the first term and not the other. */
+    VERS_INTERSECTION = 0, /**< Those that have all terms. */
+    VERS_UNION = 1,        /**< Those that have at least one of the terms. */
+    VERS_DIFFERENCE = 2    /**< Those that have the first term and none of the others. */
 };
 
 /** The kinds of lists with a saved form, which has the kinds 1 to 7, 9 and 10. A vers_growing has the form of a
@@ -247,10 +247,11 @@ uint32_t vers_extract(vers_handle *handle, size_t start, size_t end, vers_handle
  *  VERS_NO_MEMORY. The two handles differ. */
 uint32_t vers_documents(vers_handle *handle, uint64_t term, vers_handle *into);
 
-/** Puts the documents of two terms of a vers_inverted that a vers_joint names, ascending, into an empty other
- *  handle, as vers_numbers. VERS_REFUSED if the first owns no such index, or there is no such vers_joint,
- *  VERS_OCCUPIED, VERS_NO_MEMORY. The two handles differ. */
-uint32_t vers_joined(vers_handle *handle, uint32_t joint, uint64_t one, uint64_t other, vers_handle *into);
+/** Puts the documents of `count` terms of a vers_inverted that a vers_joint names, ascending, into an empty other
+ *  handle, as vers_numbers. An intersection takes the fewest steps if the first term has the fewest documents.
+ *  VERS_REFUSED if the first handle owns no such index, there is no such vers_joint, or `count` is 0; VERS_OCCUPIED,
+ *  VERS_NO_MEMORY. The two handles differ; reads `terms`. */
+uint32_t vers_joined(vers_handle *handle, uint32_t joint, const uint64_t *terms, size_t count, vers_handle *into);
 
 /** Empties a handle, and frees the list if no other handle owns it. An empty handle stays empty. Other threads may
  *  use and free other handles of the list meanwhile. One handle, no array. */
@@ -1648,25 +1649,47 @@ static inline uint32_t vers_inverted_documents(const vers_inverted *index, uint6
     return vers_documents(vers_held(&index->handle), term, &into->handle);
 }
 
-/** Puts the documents that have both terms, ascending, into an empty other handle. VERS_REFUSED if the first owns
- * nothing, VERS_OCCUPIED, VERS_NO_MEMORY. */
+/** Puts the documents that have each of `count` terms, ascending, into an empty other handle. It takes the fewest steps
+ * if the first term has the fewest documents. VERS_REFUSED if the first handle is empty or `count` is 0, VERS_OCCUPIED,
+ * VERS_NO_MEMORY. */
+static inline uint32_t vers_inverted_intersection_of(const vers_inverted *index, const uint64_t *terms, size_t count,
+                                                     vers_numbers *into) {
+    return vers_joined(vers_held(&index->handle), VERS_INTERSECTION, terms, count, &into->handle);
+}
+
+/** Puts the documents that have at least one of `count` terms, ascending, into an empty other handle. VERS_REFUSED if
+ * the first handle is empty or `count` is 0, VERS_OCCUPIED, VERS_NO_MEMORY. */
+static inline uint32_t vers_inverted_union_of(const vers_inverted *index, const uint64_t *terms, size_t count,
+                                              vers_numbers *into) {
+    return vers_joined(vers_held(&index->handle), VERS_UNION, terms, count, &into->handle);
+}
+
+/** Puts the documents that have the first of `count` terms and none of the others, ascending, into an empty other
+ * handle. VERS_REFUSED if the first handle is empty or `count` is 0, VERS_OCCUPIED, VERS_NO_MEMORY. */
+static inline uint32_t vers_inverted_difference_of(const vers_inverted *index, const uint64_t *terms, size_t count,
+                                                   vers_numbers *into) {
+    return vers_joined(vers_held(&index->handle), VERS_DIFFERENCE, terms, count, &into->handle);
+}
+
+/** Does what vers_inverted_intersection_of does for two terms. */
 static inline uint32_t vers_inverted_intersection(const vers_inverted *index, uint64_t one, uint64_t other,
                                                   vers_numbers *into) {
-    return vers_joined(vers_held(&index->handle), VERS_INTERSECTION, one, other, &into->handle);
+    const uint64_t terms[] = {one, other};
+    return vers_inverted_intersection_of(index, terms, 2, into);
 }
 
-/** Puts the documents that have one of two terms, or both, ascending, into an empty other handle. VERS_REFUSED if
- * the first is empty, VERS_OCCUPIED, VERS_NO_MEMORY. */
+/** Does what vers_inverted_union_of does for two terms. */
 static inline uint32_t vers_inverted_union(const vers_inverted *index, uint64_t one, uint64_t other,
                                            vers_numbers *into) {
-    return vers_joined(vers_held(&index->handle), VERS_UNION, one, other, &into->handle);
+    const uint64_t terms[] = {one, other};
+    return vers_inverted_union_of(index, terms, 2, into);
 }
 
-/** Puts the documents that have the first term and not the other, ascending, into an empty other handle.
- * VERS_REFUSED if the first is empty, VERS_OCCUPIED, VERS_NO_MEMORY. */
+/** Does what vers_inverted_difference_of does for two terms. */
 static inline uint32_t vers_inverted_difference(const vers_inverted *index, uint64_t one, uint64_t other,
                                                 vers_numbers *into) {
-    return vers_joined(vers_held(&index->handle), VERS_DIFFERENCE, one, other, &into->handle);
+    const uint64_t terms[] = {one, other};
+    return vers_inverted_difference_of(index, terms, 2, into);
 }
 
 /** Replaces each number by the answer of a query of this number, or by `other` if there is no answer. VERS_UNKNOWN

@@ -382,6 +382,12 @@ static void test_inverted() {
     check("loaded", *loaded_form(*index) == *index);
     const auto made = index->documents(2, status);
     check("a status", made && status == Status::done && made->len() == 2);
+    check("all", listed(index->intersection_of({0, 2, 0})) == std::vector<std::uint64_t>{3});
+    check("any", listed(index->union_of({3, 0, 2})) == std::vector<std::uint64_t>{0, 3, 4, 9});
+    check("none of the others", listed(index->difference_of({0, 3, 2})) == std::vector<std::uint64_t>{0});
+    check("one term", listed(index->union_of({2})) == listed(index->documents(2)));
+    check("no term", !index->intersection_of({}, status) && status == Status::refused &&
+                     !index->union_of({}, status) && !index->difference_of({}, status));
     check("statuses", index->intersection(0, 2, status) && index->either(0, 2, status) && index->difference(0, 2, status));
 }
 

@@ -1092,15 +1092,40 @@ public:
     std::optional<Numbers> documents(std::uint64_t term, Status &status) const noexcept {
         return Numbers::of(status, [&](vers_numbers *into) { return vers_inverted_documents(&raw_, term, into); });
     }
+    /** Returns the documents that have all terms, ascending, which takes the fewest steps if the first has the fewest
+     *  documents. Status::refused if there is no term. */
+    Numbers intersection_of(const std::vector<std::uint64_t> &terms) const {
+        Status status;
+        return Numbers::needed(intersection_of(terms, status), status);
+    }
+    std::optional<Numbers> intersection_of(const std::vector<std::uint64_t> &terms, Status &status) const noexcept {
+        return joined(VERS_INTERSECTION, terms.data(), terms.size(), status);
+    }
+    /** Returns the documents that have at least one of some terms, ascending. Status::refused if there is no term. */
+    Numbers union_of(const std::vector<std::uint64_t> &terms) const {
+        Status status;
+        return Numbers::needed(union_of(terms, status), status);
+    }
+    std::optional<Numbers> union_of(const std::vector<std::uint64_t> &terms, Status &status) const noexcept {
+        return joined(VERS_UNION, terms.data(), terms.size(), status);
+    }
+    /** Returns the documents that have the first term and none of the others, ascending. Status::refused if there is no
+     *  term. */
+    Numbers difference_of(const std::vector<std::uint64_t> &terms) const {
+        Status status;
+        return Numbers::needed(difference_of(terms, status), status);
+    }
+    std::optional<Numbers> difference_of(const std::vector<std::uint64_t> &terms, Status &status) const noexcept {
+        return joined(VERS_DIFFERENCE, terms.data(), terms.size(), status);
+    }
     /** Returns the documents that have both terms, ascending. */
     Numbers intersection(std::uint64_t one, std::uint64_t other) const {
         Status status;
         return Numbers::needed(intersection(one, other, status), status);
     }
     std::optional<Numbers> intersection(std::uint64_t one, std::uint64_t other, Status &status) const noexcept {
-        return Numbers::of(status, [&](vers_numbers *into) {
-            return vers_inverted_intersection(&raw_, one, other, into);
-        });
+        const std::uint64_t terms[] = {one, other};
+        return joined(VERS_INTERSECTION, terms, 2, status);
     }
     /** Returns the documents that have one of two terms, or both, ascending. */
     Numbers either(std::uint64_t one, std::uint64_t other) const {
@@ -1108,7 +1133,8 @@ public:
         return Numbers::needed(either(one, other, status), status);
     }
     std::optional<Numbers> either(std::uint64_t one, std::uint64_t other, Status &status) const noexcept {
-        return Numbers::of(status, [&](vers_numbers *into) { return vers_inverted_union(&raw_, one, other, into); });
+        const std::uint64_t terms[] = {one, other};
+        return joined(VERS_UNION, terms, 2, status);
     }
     /** Returns the documents that have the first term and not the other, ascending. */
     Numbers difference(std::uint64_t one, std::uint64_t other) const {
@@ -1116,14 +1142,19 @@ public:
         return Numbers::needed(difference(one, other, status), status);
     }
     std::optional<Numbers> difference(std::uint64_t one, std::uint64_t other, Status &status) const noexcept {
-        return Numbers::of(status, [&](vers_numbers *into) {
-            return vers_inverted_difference(&raw_, one, other, into);
-        });
+        const std::uint64_t terms[] = {one, other};
+        return joined(VERS_DIFFERENCE, terms, 2, status);
     }
 
 private:
     friend Owner;
     explicit InvertedIndex(Nothing) noexcept {}
+    std::optional<Numbers> joined(vers_joint joint, const std::uint64_t *terms, std::size_t count,
+                                  Status &status) const noexcept {
+        return Numbers::of(status, [&](vers_numbers *into) {
+            return vers_joined(vers_held(&raw_.handle), joint, terms, count, &into->handle);
+        });
+    }
     bool has_contents_of(const InvertedIndex &other) const noexcept {
         return terms() == other.terms() && universe() == other.universe() && agrees(other, VERS_GET, len());
     }

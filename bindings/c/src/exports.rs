@@ -124,7 +124,7 @@ exports! {
     documents {
         fn vers_inverted_build(limit: u64, universe: u64, terms: &[u64], documents: &[u64], handle: &mut VersHandle) -> u32;
         fn vers_documents(handle: &mut VersHandle, term: u64, into: &mut VersHandle) -> u32;
-        fn vers_joined(handle: &mut VersHandle, code: u32, one: u64, other: u64, into: &mut VersHandle) -> u32;
+        fn vers_joined(handle: &mut VersHandle, code: u32, terms: &[u64], into: &mut VersHandle) -> u32;
     }
     quick {
         fn vers_quick_bits_get(handle: &mut VersHandle, position: u64) -> VersAnswer;

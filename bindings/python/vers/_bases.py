@@ -19,6 +19,7 @@ from ._queries import Query, query
 #: The greatest number of 64 bits, 2**64 - 1.
 NONE = _buffers.MOST
 
+_value = library.value
 # how many items `repr` shows
 _SHOWN = 8
 # the classes by the third word of a saved form
@@ -75,14 +76,19 @@ class List(Generic[Q]):
             free(self._at)
 
     # A call of the library costs more with each argument, and with an answer that has fields. So a query of one number
-    # uses the call that takes no more and returns a number. If that number is ambiguous, the full call follows.
+    # uses the call that takes no more and returns a number. If that number is ambiguous, the full call follows. Each
+    # call of Python costs a tenth as much, so the next two begin alike.
     def _find(self, code: int, a: int = 0) -> Optional[int]:
         if type(a) is not int or not 0 <= a <= NONE:
             return self._asked_otherwise(code, a)
-        found: int = library.value(self._at, code, a)
+        found: int = _value(self._at, code, a)
         return found if found != NONE else self._found(code, a, 0, 0)
 
     def _number(self, code: int, a: int = 0) -> int:
+        if type(a) is int and 0 <= a <= NONE:
+            known: int = _value(self._at, code, a)
+            if known != NONE:
+                return known
         found = self._find(code, a)
         assert found is not None, "the query finds a number"
         return found
@@ -323,7 +329,7 @@ class List(Generic[Q]):
 
     def _answers_from(self, code: int, start: int, end: int) -> Any:
         """Returns the answers of a query to each number from one up to another, in an array('Q')."""
-        numbers = array("Q", range(start, end))
+        numbers = _buffers.numbers_from(start, end)
         return self._answers(code, _buffers.Columns([numbers], len(numbers), None), 0, False)
 
     def _batch(self, ask: Any, *arguments: Any) -> None:
@@ -376,6 +382,8 @@ class Items(List[Q], Sequence[int]):
 
     def _slice(self, places: range) -> Any:
         """Returns the items at some positions, in an array."""
+        if places.step == 1:
+            return self._answers_from(codes.GET, places.start, places.stop)
         numbers = array("Q", places)
         return self._answers(codes.GET, _buffers.Columns([numbers], len(numbers), None), 0, False)
 

@@ -2,6 +2,7 @@
 
 import contextlib
 import ctypes
+import functools
 import operator
 import sys
 from array import array
@@ -210,6 +211,31 @@ def array_of(kind: str, content: Any) -> Any:
     made = array(kind)
     made.frombytes(content)
     return made
+
+
+def numbers_from(start: int, end: int) -> Any:
+    """Returns the numbers from one up to another, in an array('Q'), without an object for each."""
+    made = array("Q")
+    while start < end:
+        first = start & 0xFFFF
+        count = min(end - start, 0x10000 - first)
+        part = bytearray(_low_bytes()[8 * first:8 * (first + count)])
+        for k, byte in enumerate((start >> 16).to_bytes(6, "little"), 2):
+            part[k::8] = bytes([byte]) * count
+        made.frombytes(part)
+        start += count
+    if sys.byteorder != "little":
+        made.byteswap()
+    return made
+
+
+@functools.lru_cache(maxsize=None)
+def _low_bytes() -> bytes:
+    """Returns the numbers below 2**16, each in 8 bytes, the lowest first."""
+    numbers = array("Q", range(0x10000))
+    if sys.byteorder != "little":
+        numbers.byteswap()
+    return numbers.tobytes()
 
 
 def narrowed(numbers: Any, bits: int) -> Any:

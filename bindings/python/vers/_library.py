@@ -69,7 +69,7 @@ places = _call(_unlocked, "vers_places", _U32, _AT, _POINTER, _SIZE, _AT)
 first_places = _call(_unlocked, "vers_first_places", _U32, _AT, _POINTER, _SIZE, _SIZE, _AT)
 extract = _call(_unlocked, "vers_extract", _U32, _AT, _SIZE, _SIZE, _AT)
 documents = _call(_unlocked, "vers_documents", _U32, _AT, _U64, _AT)
-joined = _call(_unlocked, "vers_joined", _U32, _AT, _U32, _U64, _U64, _AT)
+joined = _call(_unlocked, "vers_joined", _U32, _AT, _U32, _POINTER, _SIZE, _AT)
 free = _call(_locked, "vers_free", None, _AT)
 
 growing_build = _call(_unlocked, "vers_growing_build", _U32, _POINTER, _SIZE, _SIZE, _AT)

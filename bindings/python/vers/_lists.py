@@ -5,7 +5,6 @@ from __future__ import annotations
 import os
 from array import array
 from itertools import chain, compress
-from operator import not_
 from typing import Any, Iterable, Iterator, List, Literal, Optional, Tuple, Union
 
 from . import _buffers, _codes as codes, _fasta, _files, _library as library
@@ -747,7 +746,7 @@ class Postings(Ascending[_PostingsQuery]):
 
     def _contents(self) -> Iterator[Any]:
         yield from self._parts(0, len(self))
-        yield array("Q", self._each_below(codes.COST, len(self)))
+        yield self._costs()
 
     @query(codes.RANK, True)
     def rank(self, number: int) -> int:
@@ -802,31 +801,35 @@ class Postings(Ascending[_PostingsQuery]):
     def __and__(self, other: Postings) -> Postings:
         if not isinstance(other, Postings):
             return NotImplemented
-        return self._with_costs(self.intersect(other)._all())
+        documents = self.intersect(other)._all()
+        made: Postings = Postings(documents, self.each("cost", self.each("rank", documents), other=0))
+        return made
 
     def __sub__(self, other: Postings) -> Postings:
         if not isinstance(other, Postings):
             return NotImplemented
-        documents = self._all()
-        return self._with_costs(array("Q", compress(documents, map(not_, other.contains(documents)))))
+        kept = bytearray(b"\1") * len(self)
+        for position in self.each("rank", self.intersect(other)._all()):
+            kept[position] = 0
+        made: Postings = Postings(array("Q", compress(self._all(), kept)), array("Q", compress(self._costs(), kept)))
+        return made
 
     def __or__(self, other: Postings) -> Postings:
         if not isinstance(other, Postings):
             return NotImplemented
         rest = other - self
-        # two runs that ascend, which a sort merges
-        rows = sorted(chain(*(zip(it._all(), it._costs(it._all())) for it in (self, rest))))
-        made: Postings = Postings([it for it, _ in rows], [cost for _, cost in rows])
+        is_from_rest = bytearray(len(self) + len(rest))
+        for count, below in enumerate(self.each("rank", rest._all())):
+            is_from_rest[count + below] = 1
+        # each cost is the next of the list that has the document
+        sources = iter(self._costs()), iter(rest._costs())
+        costs = array("Q", map(next, map(sources.__getitem__, is_from_rest)))
+        made: Postings = Postings(array("Q", sorted(self._all() + rest._all())), costs)
         return made
 
-    def _costs(self, documents: Any) -> Any:
-        """Returns the costs of documents that the list has, in an array."""
-        return self.each("cost", self.each("rank", documents), other=0)
-
-    def _with_costs(self, documents: Any) -> Postings:
-        """Returns a list of documents that this one has, with their costs."""
-        made: Postings = Postings(documents, self._costs(documents))
-        return made
+    def _costs(self) -> Any:
+        """Returns the costs of all documents, in an array('Q')."""
+        return self._answers_from(codes.COST, 0, len(self))
 
 
 class InvertedIndex(Shared[_InvertedQuery]):
@@ -924,38 +927,26 @@ class InvertedIndex(Shared[_InvertedQuery]):
 
     def intersection(self, one: int, *others: int) -> PlainNumbers:
         """Returns the documents that have all of one or more terms, ascending."""
-        return self._filtered(self._joined(codes.INTERSECTION, one, others), others[1:], True)
+        # the search steps through the documents of the first term
+        return self._joined(codes.INTERSECTION, sorted(_terms(one, others), key=self.count))
 
     def union(self, one: int, *others: int) -> PlainNumbers:
         """Returns the documents that have at least one of one or more terms, ascending."""
-        found = self._joined(codes.UNION, one, others)
-        if len(others) < 2:
-            return found
-        lists = [found, *(self.documents(it) for it in others[1:])]
-        return _plain_again(array("Q", sorted(set(chain(*(it._all() for it in lists))))))
+        return self._joined(codes.UNION, _terms(one, others))
 
     def difference(self, one: int, *others: int) -> PlainNumbers:
         """Returns the documents that have the first term and none of the others, ascending."""
-        return self._filtered(self._joined(codes.DIFFERENCE, one, others), others[1:], False)
+        return self._joined(codes.DIFFERENCE, _terms(one, others))
 
-    def _filtered(self, found: PlainNumbers, terms: Tuple[int, ...], is_kept: bool) -> PlainNumbers:
-        """Returns those of some documents that have each of some terms, or that have none of them."""
-        if not terms:
-            return found
-        documents = found._all()
-        for it in terms:
-            has = self.contains(number(it, "the term"), documents)
-            documents = array("Q", compress(documents, has if is_kept else map(not_, has)))
-        return _plain_again(documents)
-
-    def _joined(self, joint: int, one: int, others: Tuple[int, ...]) -> PlainNumbers:
-        """Returns the documents of the first term, joined with those of the second one if there is one."""
-        if not others:
-            return self.documents(one)
+    def _joined(self, joint: int, terms: List[int]) -> PlainNumbers:
+        """Returns documents of the first of some terms and of the others."""
         own = self.__copy__()
-        made: PlainNumbers = PlainNumbers._made(
-            library.joined, own._at, joint, number(one, "the first term"), number(others[0], "the other term"))
+        made: PlainNumbers = PlainNumbers._made(library.joined, own._at, joint, _buffers.held(terms))
         return made
+
+
+def _terms(one: Any, others: Tuple[Any, ...]) -> List[int]:
+    return [number(it, "the term") for it in (one, *others)]
 
 
 def _above_all(held: Held) -> int:

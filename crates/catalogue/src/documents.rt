@@ -1,4 +1,4 @@
-//! Lists of documents of an inverted index: of one term, and of two.
+//! Lists of documents of an inverted index: of one term, and of several.
 ghost use Rattle.std.specs.Prelude.{◌≡◌, slice_get, IfOk};
 ghost use Rattle.inverted.specs.Lists.{list_of};
 ghost use Rattle.catalogue.specs.Joined.{joined};
@@ -6,14 +6,14 @@ ghost use Rattle.catalogue.specs.Joined.{joined};
 use inverted::InvertedIndex;
 use std::alloc::{AllocError, Allocator};
 
-/// Which documents of two terms are listed.
+/// Which documents of several terms are listed.
 #[derive(Clone, Copy, Drop)]
 pub enum Joint {
-    /// Those that have both terms.
+    /// Those that have all terms.
     Intersection,
-    /// Those that have one of the terms, or both.
+    /// Those that have at least one of the terms.
     Union,
-    /// Those that have the first term and not the other.
+    /// Those that have the first term and none of the others.
     Difference,
 }
 
@@ -52,19 +52,20 @@ pub fn documents_of<A: Allocator + Copy>(
     Ok(found)
 }
 
-/// Returns documents of two terms, ascending. Errors: `AllocError` if the allocator refuses a request.
+/// Returns documents of a term and others, ascending. An intersection takes the fewest steps if the first term has the
+/// fewest documents. Errors: `AllocError` if the allocator refuses a request.
 pub fn joined_documents<A: Allocator + Copy>(
     alloc: A,
     index: &InvertedIndex<A>,
     joint: Joint,
-    one: u64,
-    other: u64,
+    first: u64,
+    others: &[u64],
 ) -> Result<Vec<u64, A>, AllocError>
-    ensures { IfOk result (λ found. found.items ≡ joined index.now joint one other) }
+    ensures { IfOk result (λ found. found.items ≡ joined index.now joint first others.now) }
 {
     match joint {
-        Joint::Intersection => index.intersection_numbers(alloc, one, other),
-        Joint::Union => index.union_numbers(alloc, one, other),
-        Joint::Difference => index.difference_numbers(alloc, one, other),
+        Joint::Intersection => index.intersection_numbers(alloc, first, others),
+        Joint::Union => index.union_numbers(alloc, first, others),
+        Joint::Difference => index.difference_numbers(alloc, first, others),
     }
 }

@@ -348,7 +348,7 @@ lists_ascend ns universe terms up =
 
 -- ---- documents are below the universe
 
-false-true : {A : Type 0} → false ≡ true → A
+pub false-true : {A : Type 0} → false ≡ true → A
 false-true e = cc
 
 pub listed_below : (ns : List ℕ) (universe terms t d : ℕ) → is_element (slice_index_or (lists_of ns universe terms) t []) d ≡ true → d < universe

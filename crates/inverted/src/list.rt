@@ -37,7 +37,7 @@ impl<'a, A: Allocator + Copy> ListOf<'a, A> {
     /// Returns the documents of a term: none if there is no such term.
     pub fn new(index: &'a InvertedIndex<A>, term: u64) -> Self
         ensures value { result ≡ term_of index.now term }
-        ensures below { (d : ℕ) → is_element (list_of index.now term) d ≡ true → d < index.now.universe }
+        ensures below { (t d : ℕ) → is_element (list_of index.now t) d ≡ true → d < index.now.universe }
     {
         ListOf {
             index,

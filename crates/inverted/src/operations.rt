@@ -19,29 +19,12 @@ impl<A: Allocator + Copy> InvertedIndex<A> {
     ) -> Result<EliasFanoVec<A>, AllocError>
         ensures { IfOk result (IsSetOf (in_both (list_of self.now one) (list_of self.now other))) }
     {
-        let found = self.intersection_numbers(alloc, one, other)?;
-        EliasFanoVec::from_slice(alloc, found.as_slice())
-    }
-
-    /// Returns the elements of `intersection(alloc, one, other)`. Errors: `AllocError` only if the allocator refuses a
-    /// request.
-    pub fn intersection_numbers(
-        &self,
-        alloc: A,
-        one: u64,
-        other: u64,
-    ) -> Result<Vec<u64, A>, AllocError>
-        ensures value { IfOk result (λ found. found.items
-            ≡ documents_with self.now (in_both (list_of self.now one) (list_of self.now other))) }
-        ensures set { IfOk result (λ found.
-            IsSetOf (in_both (list_of self.now one) (list_of self.now other)) found.items) }
-    {
         let (rarer, commoner) = rarer_first(self, one, other);
         let both = Both {
             one: ListOf::new(self, rarer),
             other: ListOf::new(self, commoner),
         };
-        numbers_of(alloc, both)
+        collect(alloc, both)
     }
 
     /// Returns the documents that have one of two terms, or both. Errors: `AllocError` only if the allocator
@@ -49,23 +32,11 @@ impl<A: Allocator + Copy> InvertedIndex<A> {
     pub fn union(&self, alloc: A, one: u64, other: u64) -> Result<EliasFanoVec<A>, AllocError>
         ensures { IfOk result (IsSetOf (in_either (list_of self.now one) (list_of self.now other))) }
     {
-        let found = self.union_numbers(alloc, one, other)?;
-        EliasFanoVec::from_slice(alloc, found.as_slice())
-    }
-
-    /// Returns the elements of `union(alloc, one, other)`. Errors: `AllocError` only if the allocator refuses a
-    /// request.
-    pub fn union_numbers(&self, alloc: A, one: u64, other: u64) -> Result<Vec<u64, A>, AllocError>
-        ensures value { IfOk result (λ found. found.items
-            ≡ documents_with self.now (in_either (list_of self.now one) (list_of self.now other))) }
-        ensures set { IfOk result (λ found.
-            IsSetOf (in_either (list_of self.now one) (list_of self.now other)) found.items) }
-    {
         let either = Either {
             one: ListOf::new(self, one),
             other: ListOf::new(self, other),
         };
-        numbers_of(alloc, either)
+        collect(alloc, either)
     }
 
     /// Returns the documents that have the first term and not the other. Errors: `AllocError` only if the
@@ -74,28 +45,11 @@ impl<A: Allocator + Copy> InvertedIndex<A> {
         ensures { IfOk result
             (IsSetOf (in_difference (list_of self.now one) (list_of self.now other))) }
     {
-        let found = self.difference_numbers(alloc, one, other)?;
-        EliasFanoVec::from_slice(alloc, found.as_slice())
-    }
-
-    /// Returns the elements of `difference(alloc, one, other)`. Errors: `AllocError` only if the allocator refuses a
-    /// request.
-    pub fn difference_numbers(
-        &self,
-        alloc: A,
-        one: u64,
-        other: u64,
-    ) -> Result<Vec<u64, A>, AllocError>
-        ensures value { IfOk result (λ found. found.items
-            ≡ documents_with self.now (in_difference (list_of self.now one) (list_of self.now other))) }
-        ensures set { IfOk result (λ found.
-            IsSetOf (in_difference (list_of self.now one) (list_of self.now other)) found.items) }
-    {
         let without = Without {
             one: ListOf::new(self, one),
             other: ListOf::new(self, other),
         };
-        numbers_of(alloc, without)
+        collect(alloc, without)
     }
 
     /// Returns the documents that have the first term and each of the others. The fewer documents the first has,
@@ -109,12 +63,29 @@ impl<A: Allocator + Copy> InvertedIndex<A> {
         ensures { IfOk result
             (IsSetOf (in_all (list_of self.now first) (map (list_of self.now) others.now))) }
     {
+        let found = self.intersection_numbers(alloc, first, others)?;
+        EliasFanoVec::from_slice(alloc, found.as_slice())
+    }
+
+    /// Returns the elements of `intersection_of(alloc, first, others)`. Errors: `AllocError` only if the allocator
+    /// refuses a request.
+    pub fn intersection_numbers(
+        &self,
+        alloc: A,
+        first: u64,
+        others: &[u64],
+    ) -> Result<Vec<u64, A>, AllocError>
+        ensures value { IfOk result (λ found. found.items
+            ≡ documents_with self.now (in_all (list_of self.now first) (map (list_of self.now) others.now))) }
+        ensures set { IfOk result (λ found.
+            IsSetOf (in_all (list_of self.now first) (map (list_of self.now) others.now)) found.items) }
+    {
         let others = lists_of(alloc, self, others)?;
         let all = AllOf {
             first: ListOf::new(self, first),
             others,
         };
-        collect(alloc, all)
+        numbers_of(alloc, all)
     }
 
     /// Returns the documents that have the first term or one of the others. Errors: `AllocError` only if the
@@ -128,12 +99,29 @@ impl<A: Allocator + Copy> InvertedIndex<A> {
         ensures { IfOk result
             (IsSetOf (in_any (list_of self.now first ∷ map (list_of self.now) others.now))) }
     {
+        let found = self.union_numbers(alloc, first, others)?;
+        EliasFanoVec::from_slice(alloc, found.as_slice())
+    }
+
+    /// Returns the elements of `union_of(alloc, first, others)`. Errors: `AllocError` only if the allocator refuses a
+    /// request.
+    pub fn union_numbers(
+        &self,
+        alloc: A,
+        first: u64,
+        others: &[u64],
+    ) -> Result<Vec<u64, A>, AllocError>
+        ensures value { IfOk result (λ found. found.items
+            ≡ documents_with self.now (in_any (list_of self.now first ∷ map (list_of self.now) others.now))) }
+        ensures set { IfOk result (λ found.
+            IsSetOf (in_any (list_of self.now first ∷ map (list_of self.now) others.now)) found.items) }
+    {
         let others = lists_of(alloc, self, others)?;
         let any = AnyOf {
             first: ListOf::new(self, first),
             others,
         };
-        collect(alloc, any)
+        numbers_of(alloc, any)
     }
 
     /// Returns the documents that have the first term and none of the others. Errors: `AllocError` only if the
@@ -147,8 +135,25 @@ impl<A: Allocator + Copy> InvertedIndex<A> {
         ensures { IfOk result
             (IsSetOf (in_difference_of (list_of self.now first) (map (list_of self.now) others.now))) }
     {
+        let found = self.difference_numbers(alloc, first, others)?;
+        EliasFanoVec::from_slice(alloc, found.as_slice())
+    }
+
+    /// Returns the elements of `difference_of(alloc, first, others)`. Errors: `AllocError` only if the allocator
+    /// refuses a request.
+    pub fn difference_numbers(
+        &self,
+        alloc: A,
+        first: u64,
+        others: &[u64],
+    ) -> Result<Vec<u64, A>, AllocError>
+        ensures value { IfOk result (λ found. found.items ≡ documents_with self.now
+            (in_difference_of (list_of self.now first) (map (list_of self.now) others.now))) }
+        ensures set { IfOk result (λ found.
+            IsSetOf (in_difference_of (list_of self.now first) (map (list_of self.now) others.now)) found.items) }
+    {
         let Some((second, rest)) = others.split_first() else {
-            return collect(alloc, ListOf::new(self, first));
+            return numbers_of(alloc, ListOf::new(self, first));
         };
         let others = lists_of(alloc, self, rest)?;
         let remaining = Without {
@@ -158,7 +163,7 @@ impl<A: Allocator + Copy> InvertedIndex<A> {
                 others,
             },
         };
-        collect(alloc, remaining)
+        numbers_of(alloc, remaining)
     }
 }
 

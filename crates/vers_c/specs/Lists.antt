@@ -1,5 +1,5 @@
 -- Lists that are made from the structure of a handle.
-use Rattle.std.specs.Prelude.{ℕ, Option, Some, None, slice_get}
+use Rattle.std.specs.Prelude.{ℕ, List, ◌∷◌, Option, Some, None, slice_get}
 use Rattle.inverted.specs.Lists.{list_of}
 use Rattle.postings.specs.Posted.{common}
 use Rattle.catalogue.specs.Structures.{Content, Documents, DocumentLists, PlainNumbers}
@@ -22,16 +22,16 @@ abbrev pub listed_of : Content → ℕ → Option Content
 listed_of (DocumentLists index) term = Some (PlainNumbers (list_of index term))
 listed_of held term = None
 
--- documents of two terms, as plain numbers
-abbrev pub joined_of : Content → Joint → ℕ → ℕ → Option Content
-joined_of (DocumentLists index) joint one other = Some (PlainNumbers (joined index joint one other))
-joined_of held joint one other = None
+-- documents of a term and of others, as plain numbers
+abbrev pub joined_of : Content → Joint → ℕ → List ℕ → Option Content
+joined_of (DocumentLists index) joint first others = Some (PlainNumbers (joined index joint first others))
+joined_of held joint first others = None
 
--- the same, if there is such a list of two terms
-abbrev pub joined_if_any : Content → Option Joint → ℕ → ℕ → Option Content
-joined_if_any held None one other = None
-joined_if_any held (Some joint) one other = joined_of held joint one other
+-- the same, if there is such an operation, and a first term
+abbrev pub joined_if_any : Content → Option Joint → List ℕ → Option Content
+joined_if_any held (Some joint) (first ∷ others) = joined_of held joint first others
+joined_if_any held joint terms = None
 
--- the same by a code, which is the index of a list in the table
-abbrev pub coded_joined : Content → ℕ → ℕ → ℕ → Option Content
-coded_joined held code one other = joined_if_any held (slice_get JOINTS code) one other
+-- the same by a code, which is the index of an operation in the table
+abbrev pub coded_joined : Content → ℕ → List ℕ → Option Content
+coded_joined held code terms = joined_if_any held (slice_get JOINTS code) terms

@@ -12,7 +12,7 @@ mod values;
 use crate::asked::{Ask, Row};
 pub use bits::each_of_bits;
 use catalogue::answer::Answer;
-pub use elements::each_of_elements;
+pub use elements::{each_of_documents, each_of_elements, each_of_ones, each_of_pairs};
 use std::alloc::Global;
 pub use symbols::each_of_symbols;
 pub use values::each_of_values;

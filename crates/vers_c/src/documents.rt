@@ -1,4 +1,4 @@
-//! Exports on inverted indexes: build one, and list the documents of a term or of two.
+//! Exports on inverted indexes: build one, and list the documents of a term or of several.
 ghost use Rattle.std.specs.Prelude.{◌≡◌};
 ghost use Rattle.std.specs.Option.{option_and_then};
 ghost use Rattle.vers_c.specs.Lists.{coded_joined, listed_of};
@@ -62,18 +62,17 @@ pub extern "C" fn vers_documents(
     fill_made(alloc, into, made)
 }
 
-/// Puts documents of two terms of an inverted index, ascending, into another handle, as plain numbers: those that the
-/// code of a `Joint` selects. The handles are distinct.
+/// Puts documents of the first of some terms of an inverted index and of the others, ascending, into another handle, as
+/// plain numbers: those that the code of a `Joint` selects. Refuses no terms. The handles are distinct.
 #[unsafe(no_mangle)]
 pub extern "C" fn vers_joined(
     alloc: Global,
     handle: &mut VersHandle,
     code: u32,
-    one: u64,
-    other: u64,
+    terms: &[u64],
     into: &mut VersHandle,
 ) -> u32
-    ensures made { IsMade (option_and_then (λ held. coded_joined held code one other) (contents handle.old))
+    ensures made { IsMade (option_and_then (λ held. coded_joined held code terms.now) (contents handle.old))
         (contents into.old) (contents into.new) result }
     ensures kept { contents handle.new ≡ contents handle.old }
 {
@@ -84,7 +83,7 @@ pub extern "C" fn vers_joined(
         return REFUSED;
     }
     let owner = taken(alloc, handle);
-    let made = joined_coded(&owner, alloc, code, one, other);
+    let made = joined_coded(&owner, alloc, code, terms);
     put(handle, owner);
     fill_made(alloc, into, made)
 }

@@ -10,7 +10,10 @@ ghost use Rattle.vers_c.specs.Texts.{first_pattern_positions, pattern_count, pat
 ghost use Rattle.vers_c.specs.Structures.{content};
 
 use crate::asked::{Row, answer_each};
-use crate::batch::{each_of_bits, each_of_elements, each_of_symbols, each_of_values};
+use crate::batch::{
+    each_of_bits, each_of_documents, each_of_elements, each_of_ones, each_of_pairs,
+    each_of_symbols, each_of_values,
+};
 use crate::change::Change;
 use crate::makes::Parentheses;
 use crate::status::{DONE, UNKNOWN};
@@ -133,8 +136,11 @@ fn each_other<R: Row>(
     match structure {
         Structure::Bits(bits) => each_of_bits(bits, query, rows, b, c, other),
         Structure::Sorted(elements) => each_of_elements(elements, query, rows, b, c, other),
+        Structure::Sparse(bits) => each_of_ones(bits, query, rows, b, c, other),
         Structure::Symbols(symbols) => each_of_symbols(alloc, symbols, query, rows, b, c, other),
         Structure::Fast(values) => each_of_values(values, query, rows, b, c, other),
+        Structure::Postings(posted) => each_of_documents(posted, query, rows, b, c, other),
+        Structure::Inverted(index) => each_of_pairs(index, query, rows, b, c, other),
         _ => with_list!(structure, list => answer_each(list, query, rows, b, c, other)),
     }
 }
@@ -230,40 +236,43 @@ pub fn listed(kept: &Kept, alloc: Global, term: u64) -> Result<Option<Kept>, All
     }
 }
 
-/// Returns documents of two terms, as plain numbers, by the code of a `Joint`. `None` if this is no inverted index, or
-/// there is no such code. Errors: `AllocError` if the allocator refuses a request.
+/// Returns documents of the first of some terms and of the others, as plain numbers, by the code of a `Joint`. `None`
+/// if this is no inverted index, there is no such code, or there is no term. Errors: `AllocError` if the allocator
+/// refuses a request.
 pub fn joined_coded(
     kept: &Kept,
     alloc: Global,
     code: u32,
-    one: u64,
-    other: u64,
+    terms: &[u64],
 ) -> Result<Option<Kept>, AllocError>
     ensures joined { IfOk result (λ made. option_map content made
-        ≡ coded_joined (content kept.now) code one other) }
-    ensures index { IsErr result → IsSome (coded_joined (content kept.now) code one other) }
+        ≡ coded_joined (content kept.now) code terms.now) }
+    ensures index { IsErr result → IsSome (coded_joined (content kept.now) code terms.now) }
 {
-    match Joint::of(code) {
-        Some(joint) => joined(kept, alloc, joint, one, other),
+    let Some(joint) = Joint::of(code) else {
+        return Ok(None);
+    };
+    match terms.split_first() {
+        Some((first, others)) => joined(kept, alloc, joint, *first, others),
         None => Ok(None),
     }
 }
 
-// Returns documents of two terms, as plain numbers. `None` if this is no inverted index.
+// Returns documents of a term and of others, as plain numbers. `None` if this is no inverted index.
 fn joined(
     kept: &Kept,
     alloc: Global,
     joint: Joint,
-    one: u64,
-    other: u64,
+    first: u64,
+    others: &[u64],
 ) -> Result<Option<Kept>, AllocError>
     ensures joined { IfOk result (λ made. option_map content made
-        ≡ joined_of (content kept.now) joint one other) }
-    ensures index { IsErr result → IsSome (joined_of (content kept.now) joint one other) }
+        ≡ joined_of (content kept.now) joint first others.now) }
+    ensures index { IsErr result → IsSome (joined_of (content kept.now) joint first others.now) }
 {
     match kept {
         Kept::Other(Structure::Inverted(index)) => {
-            Ok(Some(numbers(joined_documents(alloc, index, joint, one, other)?)))
+            Ok(Some(numbers(joined_documents(alloc, index, joint, first, others)?)))
         }
         _ => Ok(None),
     }

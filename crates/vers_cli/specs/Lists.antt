@@ -1,5 +1,5 @@
 -- The replies that are lists.
-use Rattle.std.specs.Prelude.{ℕ, Bool, true, nat_le, List, reverse, if◌then◌else◌}
+use Rattle.std.specs.Prelude.{ℕ, Bool, true, nat_le, List, [], ◌∷◌, reverse, if◌then◌else◌}
 use Rattle.inverted.specs.Lists.{list_of}
 use Rattle.postings.specs.Posted.{common}
 use Rattle.vers_bits.specs.Bits.{positions}
@@ -60,5 +60,5 @@ documents_reply _ t = WrongStructure
 
 -- documents of two terms
 abbrev pub joined_reply : Content → Joint → ℕ → ℕ → PlainReply
-joined_reply (DocumentLists index) joint one other = Numbers (joined index joint one other)
+joined_reply (DocumentLists index) joint one other = Numbers (joined index joint one (other ∷ []))
 joined_reply _ joint one other = WrongStructure

@@ -266,7 +266,7 @@ pub fn joined_reply<A: Allocator + Copy>(
 {
     match structure {
         Structure::Inverted(index) => {
-            Ok(Reply::Numbers(joined_documents(alloc, index, joint, one, other)?))
+            Ok(Reply::Numbers(joined_documents(alloc, index, joint, one, &[other])?))
         }
         _ => Ok(Reply::WrongStructure),
     }

@@ -446,17 +446,24 @@ fn inverted_indexes_answer_as_their_lists() {
             ];
             for (code, list) in (0..3).zip(lists) {
                 let mut into = empty();
-                assert_eq!(vers_joined(Global, &mut handle, code, one, other, &mut into), DONE);
-                assert_eq!(vers_joined(Global, &mut handle, code, one, other, &mut into), OCCUPIED);
+                assert_eq!(vers_joined(Global, &mut handle, code, &[one, other], &mut into), DONE);
+                assert_eq!(vers_joined(Global, &mut handle, code, &[one, other], &mut into), OCCUPIED);
                 compare(&mut into, &numbers_model(list), &[0, 1, 2, 5, 6]);
             }
         }
     }
     let mut into = empty();
-    assert_eq!(vers_joined(Global, &mut handle, 3, 0, 2, &mut into), REFUSED);
+    assert_eq!(vers_joined(Global, &mut handle, 3, &[0, 2], &mut into), REFUSED);
+    assert_eq!(vers_joined(Global, &mut handle, 0, &[], &mut into), REFUSED);
+    for (code, list) in (0..3).zip([vec![0, 9], vec![0, 3, 4, 5, 8, 9], vec![5]]) {
+        let mut into = empty();
+        let terms = [[0, 2, 0], [0, 2, 3], [3, 0, 2]][code as usize];
+        assert_eq!(vers_joined(Global, &mut handle, code, &terms, &mut into), DONE);
+        compare(&mut into, &numbers_model(list), &[0, 1, 2, 5, 6]);
+    }
     let mut other = made(|it| vers_sorted_build(Global, &[1], it));
     for handle in [&mut other, &mut empty()] {
-        assert_eq!(vers_joined(Global, handle, 0, 0, 2, &mut into), REFUSED);
+        assert_eq!(vers_joined(Global, handle, 0, &[0, 2], &mut into), REFUSED);
         assert_eq!(vers_documents(Global, handle, 0, &mut into), REFUSED);
     }
     assert!(!into.is_built && handle.is_built && other.is_built);

@@ -1,9 +1,12 @@
 //! Batches of queries of ascending lists.
-ghost use Rattle.std.specs.Prelude.{◌≡◌, map, option_and_then};
+ghost use Rattle.std.specs.Prelude.{◌≡◌, map, option_and_then, slice_get, slice_index_or, unwrap_or};
 ghost use Rattle.vers_sorted.specs.Sorted.{below};
 ghost use Rattle.catalogue.specs.Answers.{found_or_absent};
 ghost use Rattle.catalogue.specs.declared.answer.Answer.TheVariants as answer;
 ghost use Rattle.vers_c.specs.Batches.{answered_row};
+ghost use Rattle.catalogue.specs.BitsAnswers.{sparse_answer};
+ghost use Rattle.catalogue.specs.ListsAnswers.{lists_answer};
+ghost use Rattle.catalogue.specs.PostingsAnswers.{posted_answer};
 ghost use Rattle.catalogue.specs.SortedAnswers.{sorted_answer};
 ghost use Rattle.vers_c.specs.BatchQueries.{element_found, element_query};
 ghost use Rattle.catalogue.specs.declared.query.Query.TheVariants as query;
@@ -12,8 +15,11 @@ use super::{Batch, GROUP, in_groups};
 use crate::asked::{Ask, Row, answer_each};
 use catalogue::answer::Answer;
 use catalogue::query::Query;
+use inverted::InvertedIndex;
+use postings::Postings;
 use std::alloc::Global;
 use vers_sorted::elias_fano::EliasFanoVec;
+use vers_sorted::sparse::SparseRSVec;
 
 // Numbers of elements below numbers.
 #[derive(Clone, Copy)]
@@ -81,6 +87,36 @@ impl Batch<EliasFanoVec<Global>, Option<u64>> for Element {
     }
 }
 
+// The positions of the ones of a list of bits by their numbers, or its length if there is no such one.
+#[derive(Clone, Copy)]
+struct Ones {
+    len: u64,
+}
+
+impl Batch<EliasFanoVec<Global>, Option<u64>> for Ones {
+    ghost answers = { λ ones elements number _ _. answer.Found (slice_index_or elements number ones.len) };
+
+    ghost wants = { λ ones elements number.
+        answer.Found (unwrap_or (option_and_then (slice_get elements) number) ones.len) };
+
+    ghost says = { λ ones element. answer.Found (unwrap_or element ones.len) };
+
+    #[inline(always)]
+    fn of(self, ask: Ask) -> Option<u64> {
+        Some(ask.a)
+    }
+
+    #[inline(always)]
+    fn ask_all(self, elements: &EliasFanoVec<Global>, numbers: &mut [Option<u64>]) {
+        elements.get_each(numbers)
+    }
+
+    #[inline(always)]
+    fn answer(self, element: Option<u64>) -> Answer {
+        Answer::Found(element.unwrap_or(self.len))
+    }
+}
+
 /// Replaces each row by the answer of an ascending list to its numbers, with a batch search for each frequent
 /// query.
 pub fn each_of_elements<R: Row>(
@@ -105,7 +141,66 @@ pub fn each_of_elements<R: Row>(
     }
 }
 
-// Does the same for an element.
+/// Does what `each_of_elements` does for a list of bits with few ones, whose positions are an ascending list.
+#[tactic(auto, unfolding(vers_bits::specs::Bits::select))]
+pub fn each_of_ones<R: Row>(
+    bits: &SparseRSVec<Global>,
+    query: Query,
+    rows: &mut [R],
+    b: u64,
+    c: u64,
+    other: u64,
+)
+    ensures { rows.new ≡ map (answered_row R.ask R.with_answer (sparse_answer bits.now query) other b c) rows.old }
+{
+    match query {
+        Query::Select1 => {
+            let ones = Ones { len: bits.len() };
+            let mut numbers = [None; GROUP];
+            in_groups(ones, bits.ones(), &mut numbers, rows, b, c, other)
+        }
+        _ => answer_each(bits, query, rows, b, c, other),
+    }
+}
+
+/// Does what `each_of_elements` does for documents with costs, which are an ascending list.
+pub fn each_of_documents<R: Row>(
+    posted: &Postings<Global>,
+    query: Query,
+    rows: &mut [R],
+    b: u64,
+    c: u64,
+    other: u64,
+)
+    ensures { rows.new ≡ map (answered_row R.ask R.with_answer (posted_answer posted.now query) other b c) rows.old }
+{
+    let documents = posted.documents();
+    match query {
+        Query::Get => each_of_elements(documents, Query::Get, rows, b, c, other),
+        Query::Rank => each_of_elements(documents, Query::Rank, rows, b, c, other),
+        Query::Successor => each_of_elements(documents, Query::Successor, rows, b, c, other),
+        _ => answer_each(posted, query, rows, b, c, other),
+    }
+}
+
+/// Does what `each_of_elements` does for an inverted index, whose pairs are an ascending list of numbers.
+pub fn each_of_pairs<R: Row>(
+    index: &InvertedIndex<Global>,
+    query: Query,
+    rows: &mut [R],
+    b: u64,
+    c: u64,
+    other: u64,
+)
+    ensures { rows.new ≡ map (answered_row R.ask R.with_answer (lists_answer index.now query) other b c) rows.old }
+{
+    match query {
+        Query::Get => each_of_elements(index.pair_numbers(), Query::Get, rows, b, c, other),
+        _ => answer_each(index, query, rows, b, c, other),
+    }
+}
+
+// Does what `each_of_elements` does for the query of an element.
 fn find_each<R: Row>(
     elements: &EliasFanoVec<Global>,
     element: Element,

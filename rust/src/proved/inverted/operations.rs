@@ -17,63 +17,32 @@ impl<A: Allocator + Copy> InvertedIndex<A> {
         one: u64,
         other: u64,
     ) -> Result<EliasFanoVec<A>, AllocError> {
-        let found = self.intersection_numbers(alloc, one, other)?;
-        EliasFanoVec::from_slice(alloc, found.as_slice())
-    }
-
-    /// Returns the elements of `intersection(alloc, one, other)`. Errors: `AllocError` only if the allocator refuses a
-    /// request.
-    pub fn intersection_numbers(
-        &self,
-        alloc: A,
-        one: u64,
-        other: u64,
-    ) -> Result<Vec<u64, A>, AllocError> {
         let (rarer, commoner) = rarer_first(self, one, other);
         let both = Both {
             one: ListOf::new(self, rarer),
             other: ListOf::new(self, commoner),
         };
-        numbers_of(alloc, both)
+        collect(alloc, both)
     }
 
     /// Returns the documents that have one of two terms, or both. Errors: `AllocError` only if the allocator
     /// refuses a request.
     pub fn union(&self, alloc: A, one: u64, other: u64) -> Result<EliasFanoVec<A>, AllocError> {
-        let found = self.union_numbers(alloc, one, other)?;
-        EliasFanoVec::from_slice(alloc, found.as_slice())
-    }
-
-    /// Returns the elements of `union(alloc, one, other)`. Errors: `AllocError` only if the allocator refuses a
-    /// request.
-    pub fn union_numbers(&self, alloc: A, one: u64, other: u64) -> Result<Vec<u64, A>, AllocError> {
         let either = Either {
             one: ListOf::new(self, one),
             other: ListOf::new(self, other),
         };
-        numbers_of(alloc, either)
+        collect(alloc, either)
     }
 
     /// Returns the documents that have the first term and not the other. Errors: `AllocError` only if the
     /// allocator refuses a request.
     pub fn difference(&self, alloc: A, one: u64, other: u64) -> Result<EliasFanoVec<A>, AllocError> {
-        let found = self.difference_numbers(alloc, one, other)?;
-        EliasFanoVec::from_slice(alloc, found.as_slice())
-    }
-
-    /// Returns the elements of `difference(alloc, one, other)`. Errors: `AllocError` only if the allocator refuses a
-    /// request.
-    pub fn difference_numbers(
-        &self,
-        alloc: A,
-        one: u64,
-        other: u64,
-    ) -> Result<Vec<u64, A>, AllocError> {
         let without = Without {
             one: ListOf::new(self, one),
             other: ListOf::new(self, other),
         };
-        numbers_of(alloc, without)
+        collect(alloc, without)
     }
 
     /// Returns the documents that have the first term and each of the others. The fewer documents the first has,
@@ -84,12 +53,24 @@ impl<A: Allocator + Copy> InvertedIndex<A> {
         first: u64,
         others: &[u64],
     ) -> Result<EliasFanoVec<A>, AllocError> {
+        let found = self.intersection_numbers(alloc, first, others)?;
+        EliasFanoVec::from_slice(alloc, found.as_slice())
+    }
+
+    /// Returns the elements of `intersection_of(alloc, first, others)`. Errors: `AllocError` only if the allocator
+    /// refuses a request.
+    pub fn intersection_numbers(
+        &self,
+        alloc: A,
+        first: u64,
+        others: &[u64],
+    ) -> Result<Vec<u64, A>, AllocError> {
         let others = lists_of(alloc, self, others)?;
         let all = AllOf {
             first: ListOf::new(self, first),
             others,
         };
-        collect(alloc, all)
+        numbers_of(alloc, all)
     }
 
     /// Returns the documents that have the first term or one of the others. Errors: `AllocError` only if the
@@ -100,12 +81,24 @@ impl<A: Allocator + Copy> InvertedIndex<A> {
         first: u64,
         others: &[u64],
     ) -> Result<EliasFanoVec<A>, AllocError> {
+        let found = self.union_numbers(alloc, first, others)?;
+        EliasFanoVec::from_slice(alloc, found.as_slice())
+    }
+
+    /// Returns the elements of `union_of(alloc, first, others)`. Errors: `AllocError` only if the allocator refuses a
+    /// request.
+    pub fn union_numbers(
+        &self,
+        alloc: A,
+        first: u64,
+        others: &[u64],
+    ) -> Result<Vec<u64, A>, AllocError> {
         let others = lists_of(alloc, self, others)?;
         let any = AnyOf {
             first: ListOf::new(self, first),
             others,
         };
-        collect(alloc, any)
+        numbers_of(alloc, any)
     }
 
     /// Returns the documents that have the first term and none of the others. Errors: `AllocError` only if the
@@ -116,8 +109,20 @@ impl<A: Allocator + Copy> InvertedIndex<A> {
         first: u64,
         others: &[u64],
     ) -> Result<EliasFanoVec<A>, AllocError> {
+        let found = self.difference_numbers(alloc, first, others)?;
+        EliasFanoVec::from_slice(alloc, found.as_slice())
+    }
+
+    /// Returns the elements of `difference_of(alloc, first, others)`. Errors: `AllocError` only if the allocator
+    /// refuses a request.
+    pub fn difference_numbers(
+        &self,
+        alloc: A,
+        first: u64,
+        others: &[u64],
+    ) -> Result<Vec<u64, A>, AllocError> {
         let (second, rest) = match others.split_first() { Some((second, rest)) => (second, rest), _ => {
-            return collect(alloc, ListOf::new(self, first));
+            return numbers_of(alloc, ListOf::new(self, first));
         } };
         let others = lists_of(alloc, self, rest)?;
         let remaining = Without {
@@ -127,7 +132,7 @@ impl<A: Allocator + Copy> InvertedIndex<A> {
                 others,
             },
         };
-        collect(alloc, remaining)
+        numbers_of(alloc, remaining)
     }
 }
 

@@ -10,7 +10,7 @@ pub mod values;
 use crate::programs::vers_c::asked::{Ask, Row};
 pub use bits::each_of_bits;
 use crate::programs::catalogue::answer::Answer;
-pub use elements::each_of_elements;
+pub use elements::{each_of_documents, each_of_elements, each_of_ones, each_of_pairs};
 use crate::rattle::Global;
 pub use symbols::each_of_symbols;
 pub use values::each_of_values;

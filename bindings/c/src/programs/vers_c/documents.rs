@@ -1,4 +1,4 @@
-//! Exports on inverted indexes: build one, and list the documents of a term or of two.
+//! Exports on inverted indexes: build one, and list the documents of a term or of several.
 
 use crate::rattle::prelude::*;
 
@@ -50,14 +50,13 @@ pub fn vers_documents(
     fill_made(alloc, into, made)
 }
 
-/// Puts documents of two terms of an inverted index, ascending, into another handle, as plain numbers: those that the
-/// code of a `Joint` selects. The handles are distinct.
+/// Puts documents of the first of some terms of an inverted index and of the others, ascending, into another handle, as
+/// plain numbers: those that the code of a `Joint` selects. Refuses no terms. The handles are distinct.
 pub fn vers_joined(
     alloc: Global,
     handle: &mut VersHandle,
     code: u32,
-    one: u64,
-    other: u64,
+    terms: &[u64],
     into: &mut VersHandle,
 ) -> u32 {
     if into.is_built {
@@ -67,7 +66,7 @@ pub fn vers_joined(
         return REFUSED;
     }
     let owner = taken(alloc, handle);
-    let made = joined_coded(&owner, alloc, code, one, other);
+    let made = joined_coded(&owner, alloc, code, terms);
     put(handle, owner);
     fill_made(alloc, into, made)
 }

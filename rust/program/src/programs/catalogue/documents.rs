@@ -1,4 +1,4 @@
-//! Lists of documents of an inverted index: of one term, and of two.
+//! Lists of documents of an inverted index: of one term, and of several.
 
 use crate::rattle::prelude::*;
 
@@ -6,14 +6,14 @@ use crate::proved::inverted::InvertedIndex;
 use crate::rattle::AllocError;
 use crate::rattle::Allocator;
 
-/// Which documents of two terms are listed.
+/// Which documents of several terms are listed.
 #[derive(Clone, Copy)]
 pub enum Joint {
-    /// Those that have both terms.
+    /// Those that have all terms.
     Intersection,
-    /// Those that have one of the terms, or both.
+    /// Those that have at least one of the terms.
     Union,
-    /// Those that have the first term and not the other.
+    /// Those that have the first term and none of the others.
     Difference,
 }
 
@@ -46,17 +46,18 @@ pub fn documents_of<A: Allocator + Copy>(
     Ok(found)
 }
 
-/// Returns documents of two terms, ascending. Errors: `AllocError` if the allocator refuses a request.
+/// Returns documents of a term and others, ascending. An intersection takes the fewest steps if the first term has the
+/// fewest documents. Errors: `AllocError` if the allocator refuses a request.
 pub fn joined_documents<A: Allocator + Copy>(
     alloc: A,
     index: &InvertedIndex<A>,
     joint: Joint,
-    one: u64,
-    other: u64,
+    first: u64,
+    others: &[u64],
 ) -> Result<Vec<u64, A>, AllocError> {
     match joint {
-        Joint::Intersection => index.intersection_numbers(alloc, one, other),
-        Joint::Union => index.union_numbers(alloc, one, other),
-        Joint::Difference => index.difference_numbers(alloc, one, other),
+        Joint::Intersection => index.intersection_numbers(alloc, first, others),
+        Joint::Union => index.union_numbers(alloc, first, others),
+        Joint::Difference => index.difference_numbers(alloc, first, others),
     }
 }

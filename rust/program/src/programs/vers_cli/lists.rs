@@ -213,7 +213,7 @@ pub fn joined_reply<A: Allocator + Copy>(
 ) -> Result<Reply<A>, AllocError> {
     match structure {
         Structure::Inverted(index) => {
-            Ok(Reply::Numbers(joined_documents(alloc, index, joint, one, other)?))
+            Ok(Reply::Numbers(joined_documents(alloc, index, joint, one, &[other])?))
         }
         _ => Ok(Reply::WrongStructure),
     }
