@@ -2,8 +2,8 @@
 //!
 //! All that it answers is of the proved sources, as `tools/plain_rust.py` writes them in plain Rust: the structures are
 //! those of `../../rust`, below the facade, so that each request for memory can be refused, and `programs` has the
-//! exports of `crates/vers_c`. Written by hand: `exports` has their interface of pointers, `shared` an owner of a
-//! structure, and `heap` the allocator.
+//! exports of `crates/vers_c`. Written by hand: `exports` has their interface of pointers, `python` that of CPython,
+//! `shared` an owner of a structure, and `heap` the allocator.
 #![deny(unsafe_op_in_unsafe_fn, clippy::undocumented_unsafe_blocks)]
 
 #[cfg(not(target_pointer_width = "64"))]
@@ -11,6 +11,7 @@ compile_error!("the proofs are of positions of 64 bits");
 
 mod exports;
 mod heap;
+mod python;
 mod shared;
 
 #[global_allocator]

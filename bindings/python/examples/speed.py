@@ -22,17 +22,29 @@ def best(call, count):
     return f"{1e9 * min(took) / count:.0f}"
 
 
-def row(name, single, by_numpy, places):
+def row(name, single, by_numpy, *numbers):
     """A row of the table: of a query, and of what numpy does. Their answers are compared first."""
 
-    def many(numbers):
-        return single.__self__.each(single.__name__, numbers)
+    def many():
+        return single.__self__.each(single.__name__, *numbers)
 
-    some = places[:10_000].tolist()
-    assert many(places).tolist()[:10_000] == [single(it) for it in some], name
-    assert (by_numpy(places) == many(places)).all(), name
-    times = best(lambda: [single(it) for it in some], len(some)), best(lambda: many(places), len(places))
-    print("|", " | ".join([name, *times, best(lambda: by_numpy(places), len(places))]), "|", flush=True)
+    some = list(zip(*(it[:10_000].tolist() for it in numbers)))
+    assert many().tolist()[:10_000] == [single(*it) for it in some], name
+    assert (by_numpy(*numbers) == many()).all(), name
+    count = len(numbers[0])
+    times = best(lambda: [single(*it) for it in some], len(some)), best(many, count)
+    print("|", " | ".join([name, *times, best(lambda: by_numpy(*numbers), count)]), "|", flush=True)
+
+
+def ranges_of(random, items, count):
+    """The starts and the ends of random ranges of a tenth of all items."""
+    starts = random.integers(0, items - items // 10, count).astype(numpy.uint64)
+    return starts, starts + numpy.uint64(items // 10)
+
+
+def of_ranges(call):
+    """What a call answers to each range."""
+    return lambda starts, ends: numpy.array([call(a, b) for a, b in zip(starts.tolist(), ends.tolist())])
 
 
 def main(items=1_000_000, queries=1_000_000):
@@ -61,6 +73,13 @@ def main(items=1_000_000, queries=1_000_000):
     symbols = random.integers(0, 256, items).astype(numpy.uint64)
     matrix = vers.WaveletMatrix(symbols, 8)
     row("`WaveletMatrix.get`; by index", matrix.get, lambda it: symbols[it], places)
+
+    starts, ends = ranges_of(random, items, 1_000)
+    row("`WaveletMatrix.range_median` of a tenth of the items; `partition`", matrix.range_median,
+        of_ranges(lambda a, b: numpy.partition(symbols[a:b], (b - a - 1) // 2)[(b - a - 1) // 2]), starts, ends)
+    values = random.permutation(elements)
+    row("`FastRmq.range_min` of a tenth of the items; `argmin`", vers.FastRmq(values).range_min,
+        of_ranges(lambda a, b: a + values[a:b + 1].argmin()), starts, ends - numpy.uint64(1))
 
     with ThreadPoolExecutor(2) as pool:
         taken = [best(lambda: list(pool.map(matrix.get, [places] * count)), count * queries) for count in (1, 2)]

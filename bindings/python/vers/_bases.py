@@ -19,7 +19,7 @@ from ._queries import Query, query
 #: The greatest number of 64 bits, 2**64 - 1.
 NONE = _buffers.MOST
 
-_value = library.value
+_asked = library.asked
 # how many items `repr` shows
 _SHOWN = 8
 # the classes by the third word of a saved form
@@ -75,20 +75,14 @@ class List(Generic[Q]):
         if hasattr(self, "_at"):
             free(self._at)
 
-    # A call of the library costs more with each argument, and with an answer that has fields. So a query of one number
-    # uses the call that takes no more and returns a number. If that number is ambiguous, the full call follows. Each
-    # call of Python costs a tenth as much, so the next two begin alike.
     def _find(self, code: int, a: int = 0) -> Optional[int]:
-        if type(a) is not int or not 0 <= a <= NONE:
+        try:
+            found: int = _asked(self._at, code, a)
+        except (TypeError, OverflowError):
             return self._asked_otherwise(code, a)
-        found: int = _value(self._at, code, a)
-        return found if found != NONE else self._found(code, a, 0, 0)
+        return found if found >= 0 else self._without(found, code, a)
 
     def _number(self, code: int, a: int = 0) -> int:
-        if type(a) is int and 0 <= a <= NONE:
-            known: int = _value(self._at, code, a)
-            if known != NONE:
-                return known
         found = self._find(code, a)
         assert found is not None, "the query finds a number"
         return found
@@ -99,11 +93,11 @@ class List(Generic[Q]):
         return truth
 
     def _find_by(self, code: int, *numbers: int) -> Optional[int]:
-        for it in numbers:
-            if type(it) is not int or not 0 <= it <= NONE:
-                return self._asked_otherwise(code, *numbers)
-        a, b, c = (*numbers, 0, 0)[:3]
-        return self._found(code, a, b, c)
+        try:
+            found: int = _asked(self._at, code, *numbers)
+        except (TypeError, OverflowError):
+            return self._asked_otherwise(code, *numbers)
+        return found if found >= 0 else self._without(found, code, *numbers)
 
     def _asked_otherwise(self, code: int, *numbers: Any) -> Optional[int]:
         """Returns the answer to arrays, and to numbers of other types than int. Names the argument that is refused."""
@@ -114,15 +108,13 @@ class List(Generic[Q]):
         plain = [number(it, f"the {argument}") for it, argument in zip(numbers, self._queries[name].names)]
         return self._find_by(code, *plain)
 
-    def _found(self, code: int, a: int, b: int, c: int) -> Optional[int]:
-        answer = library.ask(self._at, code, a, b, c)
-        if answer.status == codes.ABSENT:
-            return None
-        if answer.status == codes.REFUSED:
+    def _without(self, found: int, code: int, a: int, b: int = 0, _: int = 0) -> Optional[int]:
+        """Returns None if a query that found a status below 0 has no answer, and otherwise raises its fault."""
+        if found == -codes.REFUSED:
             raise Refused(self._reason(code, a, b))
-        library.done(answer.status)
-        value: int = answer.value
-        return value
+        if found != -codes.ABSENT:
+            library.done(-found)
+        return None
 
     def _reason(self, code: int, a: int, b: int) -> str:
         """Returns the reason why a query of two numbers is refused."""
@@ -373,9 +365,11 @@ class Items(List[Q], Sequence[int]):
         """Returns the item at a position, which is from the end if it is negative. For a slice, returns an array of
         items: of bytes if they are bits, of the narrowest kind if they are symbols, and signed if they are elements,
         documents or positions that are all below 2**63."""
-        if isinstance(position, slice):
-            return self._slice(range(*position.indices(self._length())))
-        item = self._find(codes.GET, self._position(position))
+        if type(position) is not int or not 0 <= position <= NONE:
+            if isinstance(position, slice):
+                return self._slice(range(*position.indices(self._length())))
+            position = self._position(position)
+        item = self._find(codes.GET, position)
         if item is None:
             raise IndexError(f"no item at {position}")
         return item

@@ -9,7 +9,7 @@ import os
 import threading
 from typing import Any, Optional, Tuple
 
-from ._buffers import CHUNK, Held
+from ._buffers import CHUNK, MOST, Held
 from ._codes import REFUSED
 from ._faults import fault
 
@@ -55,6 +55,50 @@ def _call(library: Any, name: str, result: Any, *arguments: Any) -> Any:
 
 ask = _call(_locked, "vers_ask", Answer, _AT, _U32, _U64, _U64, _U64)
 value = _call(_locked, "vers_value", _U64, _AT, _U32, _U64)
+
+
+def _by_ctypes(at: int, code: int, a: int, b: int = 0, c: int = 0) -> int:
+    """Returns the number that a query of a handle finds, or its status below 0. Raises TypeError if an argument is no
+    whole number of 64 bits."""
+    for it in (a, b, c):
+        if type(it) is not int or not 0 <= it <= MOST:
+            raise TypeError("the argument is no whole number of 64 bits")
+    # each argument makes a call slower, and an answer with fields does
+    found: int = MOST if b or c else value(at, code, a)
+    if found != MOST:
+        return found
+    answer = ask(at, code, a, b, c)
+    found = -answer.status or answer.value
+    return found
+
+
+class _Method(ctypes.Structure):
+    """A `PyMethodDef` of CPython, and after it the calls that the method uses."""
+
+    _fields_ = [("name", ctypes.c_char_p), ("call", _POINTER), ("flags", ctypes.c_int), ("page", ctypes.c_char_p),
+                ("calls", _POINTER * 4)]
+
+
+def _by_objects() -> Any:
+    """Returns a function of CPython's own that does what `_by_ctypes` does in a fraction of the time. None if the library
+    has none, or this Python is another one."""
+    try:
+        python, begin, call = ctypes.pythonapi, _locked.vers_python_begin, _locked.vers_python_ask
+    except AttributeError:
+        return None
+    calls = [python.PyLong_AsUnsignedLongLong, python.PyLong_FromUnsignedLongLong, python.PyLong_FromLongLong,
+             python.PyErr_Occurred]
+    addresses = [ctypes.cast(it, _POINTER).value for it in (call, *calls)]
+    _METHOD.call, _METHOD.calls[:] = addresses[0], addresses[1:]
+    begin.argtypes, begin.restype = [_POINTER], None
+    begin(ctypes.addressof(_METHOD) + _Method.calls.offset)
+    made = _call(python, "PyCFunction_NewEx", ctypes.py_object, _POINTER, _POINTER, _POINTER)
+    return made(ctypes.addressof(_METHOD), None, None)
+
+
+# it lives as long as the function; 0x80 is METH_FASTCALL
+_METHOD = _Method(b"asked", None, 0x80, None)
+asked = _by_objects() or _by_ctypes
 ask_each = _call(_unlocked, "vers_ask_each", _U32, _AT, _U32, _POINTER, _SIZE, _U64, _U64, _U64)
 ask_rows = _call(_unlocked, "vers_ask_rows", _U32, _AT, _U32, _POINTER, _SIZE, _U64)
 change = _call(_locked, "vers_change", _U32, _AT, _U32, _U64, _U64)

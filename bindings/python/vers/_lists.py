@@ -632,7 +632,7 @@ class BpTree(Shared[_TreeQuery]):
         return self._search(codes.BWD_SEARCH, position, rise)
 
     def _search(self, code: int, position: int, rise: int) -> Optional[int]:
-        return self._found(code, number(position, "the position"), signed_number(rise, "the rise") % (1 << 64), 0)
+        return self._find_by(code, number(position, "the position"), signed_number(rise, "the rise") % (1 << 64))
 
     @query(codes.PARENT, True)
     def parent(self, node: int) -> Optional[int]:
