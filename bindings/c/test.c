@@ -508,6 +508,49 @@ static void test_postings(size_t n) {
     free(costs);
 }
 
+/* Whether a number is among others. */
+static bool is_among(const uint64_t *numbers, size_t n, uint64_t x) {
+    for (size_t i = 0; i < n; i++)
+        if (numbers[i] == x) return true;
+    return false;
+}
+
+/* The sets of two lists of numbers below `most`, by the call for each. */
+static void test_combine(size_t n, uint64_t most) {
+    uint64_t *v[2] = {room(n, 8), room(n, 8)};
+    vers_sorted lists[2] = {{0}, {0}}, sets[3] = {{0}, {0}, {0}}, none = {0};
+    is("of none", vers_sorted_union(&lists[0], &none, &sets[0]), VERS_REFUSED);
+    for (size_t k = 0; k < 2; k++) {
+        for (size_t i = 0; i < n; i++) v[k][i] = next() % most;
+        qsort(v[k], n, 8, by_size);
+        is("sorted of", vers_sorted_of(&lists[k], v[k], n), VERS_DONE);
+    }
+    is("intersection", vers_sorted_intersection(&lists[0], &lists[1], &sets[0]), VERS_DONE);
+    is("union", vers_sorted_union(&lists[0], &lists[1], &sets[1]), VERS_DONE);
+    is("difference", vers_sorted_difference(&lists[0], &lists[1], &sets[2]), VERS_DONE);
+    is("into a full one", vers_sorted_union(&lists[0], &lists[1], &sets[1]), VERS_OCCUPIED);
+    uint64_t counts[3] = {0, 0, 0};
+    for (uint64_t x = 0; x < most; x++) {
+        bool first = is_among(v[0], n, x), second = is_among(v[1], n, x);
+        bool has[3] = {first && second, first || second, first && !second};
+        for (size_t k = 0; k < 3; k++)
+            if (has[k]) found("of the set", x, vers_sorted_get(&sets[k], counts[k]++), x);
+    }
+    for (size_t k = 0; k < 3; k++) {
+        found("of a set len", k, vers_sorted_len(&sets[k]), counts[k]);
+        vers_sorted_free(&sets[k]);
+    }
+    is("difference of one", vers_sorted_difference(&lists[0], &lists[0], &sets[0]), VERS_DONE);
+    found("nothing left", 0, vers_sorted_len(&sets[0]), 0);
+    is("no such joint", vers_combine(&lists[0].handle, &lists[1].handle, 3, &none.handle), VERS_REFUSED);
+    is("of none", vers_sorted_union(&lists[0], &none, &sets[1]), VERS_REFUSED);
+    vers_sorted_free(&sets[0]);
+    for (size_t k = 0; k < 2; k++) {
+        vers_sorted_free(&lists[k]);
+        free(v[k]);
+    }
+}
+
 static void test_intersect(size_t n) {
     uint64_t *one = room(n, 8), *two = room(n, 8), x = 0, y = 0, word = 0;
     for (size_t i = 0; i < n; i++) {
@@ -1431,6 +1474,8 @@ int main(void) {
     test_inverted(1);
     test_inverted(30);
     test_no_index();
+    test_combine(0, 5);
+    test_combine(60, 100);
     test_intersect(0);
     test_intersect(1);
     test_intersect(800);

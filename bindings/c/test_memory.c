@@ -66,6 +66,15 @@ static uint32_t joined(vers_handle *handle) {
     return vers_joined(&lists, VERS_UNION, terms, 3, handle);
 }
 static uint32_t clone(vers_handle *handle) { return vers_clone(&one, handle); }
+static uint32_t combine(vers_handle *handle) {
+    vers_sorted list = {0}, other = {0};
+    uint32_t status = vers_sorted_of(&list, numbers, COUNT);
+    if (status == VERS_DONE) status = vers_sorted_of(&other, numbers, COUNT / 2);
+    if (status == VERS_DONE) status = vers_combine(&list.handle, &other.handle, VERS_DIFFERENCE, handle);
+    vers_sorted_free(&list);
+    vers_sorted_free(&other);
+    return status;
+}
 static uint32_t intersect(vers_handle *handle) { return vers_intersect(&one, &two, handle); }
 
 /* The saved form of a list, and the kind that it is loaded as. */
@@ -182,6 +191,7 @@ int main(void) {
     test_fill("extract", extract);
     test_fill("clone", clone);
     test_fill("intersect", intersect);
+    test_fill("combine", combine);
     test_append();
     test_many();
     test_form("form of growing", growing, VERS_KIND_GROWING);

@@ -143,11 +143,11 @@ enum vers_change_code {
     VERS_DROP_LAST = 3 /**< Drops the last a bits. */
 };
 
-/** The documents of several terms of a vers_inverted that vers_joined lists. */
+/** The numbers of several lists that vers_combine and vers_joined return. */
 enum vers_joint {
-    VERS_INTERSECTION = 0, /**< Those that have all terms. */
-    VERS_UNION = 1,        /**< Those that have at least one of the terms. */
-    VERS_DIFFERENCE = 2    /**< Those that have the first term and none of the others. */
+    VERS_INTERSECTION = 0, /**< Those in all lists. */
+    VERS_UNION = 1,        /**< Those in at least one list. */
+    VERS_DIFFERENCE = 2    /**< Those in the first list and in none of the others. */
 };
 
 /** The kinds of lists with a saved form, which has the kinds 1 to 7, 9 and 10. A vers_growing has the form of a
@@ -216,6 +216,12 @@ uint32_t vers_clone(vers_handle *handle, vers_handle *other);
  *  of the two owns no such list, VERS_OCCUPIED, VERS_NO_MEMORY. The three handles differ. Of one list alone there
  *  have to be two handles, which `vers_postings_intersect` makes. */
 uint32_t vers_intersect(vers_handle *one, vers_handle *other, vers_handle *into);
+
+/** Puts the numbers of two vers_sorted that a vers_joint names into an empty third handle, as a vers_sorted without
+ *  repeats. VERS_REFUSED if one of the two owns no such list, or there is no such vers_joint; VERS_OCCUPIED,
+ *  VERS_NO_MEMORY. The three handles differ. Of one list alone there have to be two handles, which
+ *  `vers_sorted_intersection` and so on make. */
+uint32_t vers_combine(vers_handle *one, vers_handle *other, uint32_t joint, vers_handle *into);
 
 /** Returns the number of occurrences of a pattern of `count` symbols in a vers_text. VERS_UNKNOWN of another list,
  *  VERS_VACANT. One handle; reads `pattern`. */
@@ -781,6 +787,36 @@ static inline vers_answer vers_sorted_successor(const vers_sorted *list, uint64_
 /** Returns the element at a position less the one before it, the first element itself. VERS_ABSENT past the end. */
 static inline vers_answer vers_sorted_delta(const vers_sorted *list, uint64_t position) {
     return vers_asked(&list->handle, VERS_DELTA, position, 0, 0);
+}
+
+/** Puts the elements of two lists that `joint` names, without repeats, into an empty third handle. The two may be one.
+ * VERS_REFUSED if one of them is empty, VERS_OCCUPIED, VERS_NO_MEMORY. */
+static inline uint32_t vers_sorted_combined(const vers_sorted *one, const vers_sorted *two, enum vers_joint joint,
+                                            vers_sorted *into) {
+    vers_handle *first = vers_held(&one->handle), *second = vers_held(&two->handle), other = {false, NULL};
+    if (first != second) return vers_combine(first, second, (uint32_t)joint, &into->handle);
+    uint32_t status = vers_clone(first, &other);
+    if (status != VERS_NO_MEMORY) status = vers_combine(first, &other, (uint32_t)joint, &into->handle);
+    vers_free(&other);
+    return status;
+}
+
+/** Puts the numbers that are elements of both lists, without repeats, into an empty third handle, as
+ * vers_sorted_combined does. */
+static inline uint32_t vers_sorted_intersection(const vers_sorted *one, const vers_sorted *two, vers_sorted *into) {
+    return vers_sorted_combined(one, two, VERS_INTERSECTION, into);
+}
+
+/** Puts the numbers that are elements of one list or of both, without repeats, into an empty third handle, as
+ * vers_sorted_combined does. */
+static inline uint32_t vers_sorted_union(const vers_sorted *one, const vers_sorted *two, vers_sorted *into) {
+    return vers_sorted_combined(one, two, VERS_UNION, into);
+}
+
+/** Puts the numbers that are elements of the first list and not of the second, without repeats, into an empty third
+ * handle, as vers_sorted_combined does. */
+static inline uint32_t vers_sorted_difference(const vers_sorted *one, const vers_sorted *two, vers_sorted *into) {
+    return vers_sorted_combined(one, two, VERS_DIFFERENCE, into);
 }
 
 /** Replaces each number by the answer of a query of this number, or by `other` if there is no answer. VERS_UNKNOWN

@@ -230,6 +230,18 @@ static void test_sparse() {
     test_owner(list->clone());
 }
 
+static void test_sets() {
+    const auto one = *vers::EliasFanoVec::from({2, 2, 5, 9}), other = *vers::EliasFanoVec::from({0, 5, 5, 9, 12});
+    check("both", one.intersection(other) == vers::EliasFanoVec::from({5, 9}));
+    check("either", one.either(other) == vers::EliasFanoVec::from({0, 2, 5, 9, 12}));
+    check("difference", one.difference(other) == vers::EliasFanoVec::from({2}) && one.difference(one).is_empty());
+    Status status;
+    const vers::EliasFanoVec nothing;
+    check("statuses", one.intersection(other, status) && one.either(one, status) && one.difference(other, status));
+    check("nothing", !nothing.intersection(one, status) && status == Status::refused &&
+                     !one.either(nothing, status) && !nothing.difference(nothing, status));
+}
+
 static void test_sorted() {
     Numbers numbers = random_numbers(500, 3000);
     check("refused", !vers::EliasFanoVec::from(numbers.data(), numbers.size()));
@@ -795,6 +807,7 @@ int main() {
     test_bit_vec();
     test_sparse();
     test_sorted();
+    test_sets();
     test_symbols();
     test_minima();
     test_tree();

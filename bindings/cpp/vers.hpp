@@ -707,6 +707,22 @@ public:
     }
     /** Returns the element at a position less the one before it; the first element itself. */
     std::optional<std::uint64_t> delta(std::uint64_t position) const noexcept { return find(VERS_DELTA, position); }
+    /** Returns the numbers that are elements of both lists, without repeats. Status::refused if one owns nothing. */
+    EliasFanoVec intersection(const EliasFanoVec &other) const { return combined(other, VERS_INTERSECTION); }
+    std::optional<EliasFanoVec> intersection(const EliasFanoVec &other, Status &status) const noexcept {
+        return combined(other, VERS_INTERSECTION, status);
+    }
+    /** Returns the numbers that are elements of one list or of both, without repeats. Status::refused as above. */
+    EliasFanoVec either(const EliasFanoVec &other) const { return combined(other, VERS_UNION); }
+    std::optional<EliasFanoVec> either(const EliasFanoVec &other, Status &status) const noexcept {
+        return combined(other, VERS_UNION, status);
+    }
+    /** Returns the numbers that are elements of this list and not of the other, without repeats. Status::refused as
+     *  above. */
+    EliasFanoVec difference(const EliasFanoVec &other) const { return combined(other, VERS_DIFFERENCE); }
+    std::optional<EliasFanoVec> difference(const EliasFanoVec &other, Status &status) const noexcept {
+        return combined(other, VERS_DIFFERENCE, status);
+    }
 
     detail::Items<EliasFanoVec> begin() const noexcept { return {this, 0}; }
     detail::Items<EliasFanoVec> end() const noexcept { return {this, len()}; }
@@ -714,6 +730,13 @@ public:
 private:
     friend Owner;
     explicit EliasFanoVec(Nothing) noexcept {}
+    EliasFanoVec combined(const EliasFanoVec &other, vers_joint joint) const {
+        Status status;
+        return needed(combined(other, joint, status), status);
+    }
+    std::optional<EliasFanoVec> combined(const EliasFanoVec &other, vers_joint joint, Status &status) const noexcept {
+        return made(status, [&](vers_sorted *into) { return vers_sorted_combined(&raw_, &other.raw_, joint, into); });
+    }
 };
 
 /** A list of symbols, which are numbers of up to 64 bits. `from(numbers, width)` takes their `width` low bits, and

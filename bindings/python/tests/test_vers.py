@@ -232,6 +232,20 @@ class Lists(unittest.TestCase):
         with self.assertRaises(vers.Refused):
             vers.Postings([1, 2], [0])
 
+    def test_sets(self):
+        for size in 0, 1, 300:
+            one, other = (sorted(RANDOM.choices(range(400), k=size)) for _ in range(2))
+            lists = vers.EliasFanoVec(one), vers.EliasFanoVec(other)
+            for combine in operator.and_, operator.or_, operator.sub:
+                found = combine(*lists)
+                self.assertIsInstance(found, vers.EliasFanoVec)
+                self.assertEqual(found.tolist(), sorted(combine(set(one), set(other))))
+                self.assertEqual(combine(lists[0], lists[0]).tolist(), sorted(combine(set(one), set(one))))
+        with self.assertRaises(TypeError):
+            lists[0] & [1]
+        with self.assertRaises(TypeError):
+            lists[0] | vers.Postings([1])
+
     def test_inverted_index(self):
         lists = {term: sorted(RANDOM.sample(range(90), size)) for term, size in ((0, 40), (1, 0), (2, 90), (3, 7))}
         pairs = [(term, document) for term, documents in lists.items() for document in documents]

@@ -26,6 +26,8 @@ whole = parts.Bits(parts.Renewed(ThreadPoolExecutor), ["part"])
 part_rank: int = whole.rank1(3)
 element: Optional[int] = parts.Sorted(ThreadPoolExecutor(), []).successor(3)
 
+evens = vers.EliasFanoVec([0, 2, 4])
+set_of_numbers: vers.EliasFanoVec = evens & evens | evens - evens
 postings = vers.Postings([1, 3])
 both: vers.Postings = postings & postings | postings - postings
 

@@ -104,6 +104,7 @@ ask_rows = _call(_unlocked, "vers_ask_rows", _U32, _AT, _U32, _POINTER, _SIZE, _
 change = _call(_locked, "vers_change", _U32, _AT, _U32, _U64, _U64)
 clone = _call(_locked, "vers_clone", _U32, _AT, _AT)
 intersect = _call(_unlocked, "vers_intersect", _U32, _AT, _AT, _AT)
+combine = _call(_unlocked, "vers_combine", _U32, _AT, _AT, _U32, _AT)
 saved_size = _call(_locked, "vers_saved_size", Answer, _AT)
 save = _call(_locked, "vers_save", _U32, _AT, _POINTER, _SIZE)
 load = _call(_unlocked, "vers_load", _U32, _U32, _POINTER, _SIZE, _AT)

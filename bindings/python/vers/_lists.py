@@ -327,7 +327,8 @@ class SparseRSVec(Fixed[_SparseQuery]):
 
 
 class EliasFanoVec(Ascending[_SortedQuery]):
-    """Numbers that ascend, equal ones allowed; Refused if they don't. `x in numbers` tests whether x is an element."""
+    """Numbers that ascend, equal ones allowed; Refused if they don't. `x in numbers` tests whether x is an element. `&`,
+    `|` and `-` make the numbers of both lists, of one at least, and of the left one alone, without repeats."""
 
     _items = "elements"
     _kind = codes.KIND_SORTED
@@ -378,6 +379,22 @@ class EliasFanoVec(Ascending[_SortedQuery]):
         """Returns the least element at or above a number, while `RsVec.successor1` is strictly above. None if there is
         none."""
         return self._find(codes.SUCCESSOR, number)
+
+    def __and__(self, other: EliasFanoVec) -> EliasFanoVec:
+        return self._combined(other, codes.INTERSECTION)
+
+    def __or__(self, other: EliasFanoVec) -> EliasFanoVec:
+        return self._combined(other, codes.UNION)
+
+    def __sub__(self, other: EliasFanoVec) -> EliasFanoVec:
+        return self._combined(other, codes.DIFFERENCE)
+
+    def _combined(self, other: EliasFanoVec, joint: int) -> EliasFanoVec:
+        if not isinstance(other, EliasFanoVec):
+            return NotImplemented
+        lists = self.__copy__(), other.__copy__()
+        made: EliasFanoVec = EliasFanoVec._made(library.combine, *(it._at for it in lists), joint)
+        return made
 
     @query(codes.DELTA, None)
     def delta(self, position: int) -> Optional[int]:

@@ -3,6 +3,7 @@ pub mod BatchQueries
 pub mod Batches
 pub mod Changes
 pub mod Codes
+pub mod Combined
 pub mod Handle
 pub mod Lists
 pub mod Makes

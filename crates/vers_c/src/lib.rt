@@ -21,6 +21,7 @@ mod makes;
 mod owners;
 mod quick;
 mod saves;
+mod sets;
 mod shares;
 mod status;
 mod text;

@@ -13,6 +13,7 @@ use crate::programs::vers_c::handle::VersHandle;
 use crate::programs::vers_c::held::Held;
 use crate::programs::vers_c::quick;
 use crate::programs::vers_c::saves::{vers_load, vers_save, vers_saved_size};
+use crate::programs::vers_c::sets::vers_combine;
 use crate::programs::vers_c::shares::{vers_clone, vers_free, vers_intersect};
 use crate::programs::vers_c::texts::{
     vers_count, vers_count_each, vers_extract, vers_first_places, vers_places, vers_text_build, vers_text_build_bytes,
@@ -270,6 +271,40 @@ fn ascending_lists_answer_as_their_elements() {
     };
     compare(&mut handle, &model, &numbers);
     refused(REFUSED, |it| vers_sorted_build(Global, &[3, 4, 3], it));
+}
+
+#[test]
+fn ascending_lists_are_combined_as_sets() {
+    let lists = [vec![], vec![2, 4, 4, 9, u64::MAX], vec![0, 4, 9, 9, 30], vec![30, u64::MAX, u64::MAX]];
+    for (one, other) in lists.iter().flat_map(|one| lists.iter().map(move |other| (one, other))) {
+        let [mut first, mut second] = [one, other].map(|list| made(|it| vers_sorted_build(Global, list, it)));
+        let mut all: Vec<u64> = one.iter().chain(other).copied().collect();
+        all.sort_unstable();
+        all.dedup();
+        let has = [
+            |one: bool, other: bool| one && other,
+            |one: bool, other: bool| one || other,
+            |one: bool, other: bool| one && !other,
+        ];
+        for (code, has) in (0..3).zip(has) {
+            let set: Vec<u64> = all.iter().filter(|it| has(one.contains(it), other.contains(it))).copied().collect();
+            let mut into = empty();
+            assert_eq!(vers_combine(Global, &mut first, &mut second, code, &mut into), DONE);
+            assert_eq!(vers_combine(Global, &mut first, &mut second, code, &mut into), OCCUPIED);
+            assert_eq!(ask(&mut into, 0, 0, 0, 0), found(set.len() as u64));
+            assert!(set.iter().zip(0..).all(|(it, k)| ask(&mut into, 1, k, 0, 0) == found(*it)));
+            assert_eq!(ask(&mut first, 0, 0, 0, 0), found(one.len() as u64));
+            assert_eq!(ask(&mut second, 0, 0, 0, 0), found(other.len() as u64));
+        }
+        let mut none = empty();
+        assert_eq!(vers_combine(Global, &mut first, &mut second, 3, &mut none), REFUSED);
+        assert_eq!(vers_combine(Global, &mut first, &mut empty(), 1, &mut none), REFUSED);
+        assert_eq!(vers_combine(Global, &mut empty(), &mut second, 1, &mut none), REFUSED);
+        let mut bits = made(|it| vers_bits_build(Global, &[5], 3, it));
+        assert_eq!(vers_combine(Global, &mut first, &mut bits, 0, &mut none), REFUSED);
+        assert_eq!(vers_combine(Global, &mut bits, &mut second, 0, &mut none), REFUSED);
+        assert!(!none.is_built && bits.is_built);
+    }
 }
 
 #[test]

@@ -22,6 +22,7 @@ pub mod makes;
 pub mod owners;
 pub mod quick;
 pub mod saves;
+pub mod sets;
 pub mod shares;
 pub mod status;
 pub mod text;
