@@ -68,8 +68,8 @@ PATTERNS = (
     (r"crates/\w+/src/.*(?<!/main)\.rt", r"\A(?!//!)", "the first line doesn't say what the module is"),
     (r"crates/\w+/src/.*(?<!/main)\.rt", r"(?m)^(?! *(?:///|#\[)).*\n(?: *#\[.*\n)*"
      r" *pub (?:const )?(?:unsafe )?(fn|struct|enum|trait|const|static|type) (\w+)", "{1} {2} has no doc comment"),
-    (r"crates/\w+/src/.*(?<!/main)\.rt", r"\blet _ = (?!(?:&\w+(?:\.\w+)+|\w+(?:\.\w+)*\.(?:len|last)\(\)|T::len_of\(\w+\));|eprintln!)([^;]*);",
-     "drops `{1}`; allowed: a mention of a field, a length or a last member, and a message on standard error"),
+    (r"crates/\w+/src/.*(?<!/main)\.rt", r"\blet _ = (?!(?:&\w+(?:\.\w+)+|\w+(?:\.\w+)*\.(?:len|last|ends)\(\)|T::len_of\(\w+\));|eprintln!)([^;]*);",
+     "drops `{1}`; allowed: a mention of a field, a length, ends or a last element, and a message on standard error"),
 )
 FORWARDS = re.compile(r"(?:[\w.:&*]+(?:::<\w+>)?(?:\([\w\s,&.*]*\)|\{\w+\})?)?")
 LINK = re.compile(r"\]\(([^)#:\s]*)(?:#([^)\s]*))?\)")
