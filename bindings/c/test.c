@@ -628,6 +628,9 @@ static void test_joined(const vers_inverted *index, const bool *table, size_t un
         }
     }
     is("union of no terms", vers_inverted_union_of(index, NULL, 0, &either), VERS_REFUSED);
+    is("union of null", vers_inverted_union_of(index, NULL, 1, &either), VERS_REFUSED);
+    is("intersection of null", vers_inverted_intersection_of(index, NULL, 1, &both), VERS_REFUSED);
+    is("difference of null", vers_inverted_difference_of(index, NULL, 1, &first), VERS_REFUSED);
 }
 
 /* The documents of each term of an index, by queries and in a list. */

@@ -1690,21 +1690,24 @@ static inline uint32_t vers_inverted_documents(const vers_inverted *index, uint6
  * VERS_NO_MEMORY. */
 static inline uint32_t vers_inverted_intersection_of(const vers_inverted *index, const uint64_t *terms, size_t count,
                                                      vers_numbers *into) {
-    return vers_joined(vers_held(&index->handle), VERS_INTERSECTION, terms, count, &into->handle);
+    if (vers_is_missing(terms, count)) return VERS_REFUSED;
+    return vers_joined(vers_held(&index->handle), VERS_INTERSECTION, vers_array(terms), count, &into->handle);
 }
 
 /** Puts the documents that have at least one of `count` terms, ascending, into an empty other handle. VERS_REFUSED if
  * the first handle is empty or `count` is 0, VERS_OCCUPIED, VERS_NO_MEMORY. */
 static inline uint32_t vers_inverted_union_of(const vers_inverted *index, const uint64_t *terms, size_t count,
                                               vers_numbers *into) {
-    return vers_joined(vers_held(&index->handle), VERS_UNION, terms, count, &into->handle);
+    if (vers_is_missing(terms, count)) return VERS_REFUSED;
+    return vers_joined(vers_held(&index->handle), VERS_UNION, vers_array(terms), count, &into->handle);
 }
 
 /** Puts the documents that have the first of `count` terms and none of the others, ascending, into an empty other
  * handle. VERS_REFUSED if the first handle is empty or `count` is 0, VERS_OCCUPIED, VERS_NO_MEMORY. */
 static inline uint32_t vers_inverted_difference_of(const vers_inverted *index, const uint64_t *terms, size_t count,
                                                    vers_numbers *into) {
-    return vers_joined(vers_held(&index->handle), VERS_DIFFERENCE, terms, count, &into->handle);
+    if (vers_is_missing(terms, count)) return VERS_REFUSED;
+    return vers_joined(vers_held(&index->handle), VERS_DIFFERENCE, vers_array(terms), count, &into->handle);
 }
 
 /** Does what vers_inverted_intersection_of does for two terms. */

@@ -1175,7 +1175,7 @@ private:
     std::optional<Numbers> joined(vers_joint joint, const std::uint64_t *terms, std::size_t count,
                                   Status &status) const noexcept {
         return Numbers::of(status, [&](vers_numbers *into) {
-            return vers_joined(vers_held(&raw_.handle), joint, terms, count, &into->handle);
+            return vers_joined(vers_held(&raw_.handle), joint, vers_array(terms), count, &into->handle);
         });
     }
     bool has_contents_of(const InvertedIndex &other) const noexcept {
