@@ -518,7 +518,7 @@ static bool is_among(const uint64_t *numbers, size_t n, uint64_t x) {
 /* The sets of two lists of numbers below `most`, by the call for each. */
 static void test_combine(size_t n, uint64_t most) {
     uint64_t *v[2] = {room(n, 8), room(n, 8)};
-    vers_sorted lists[2] = {{0}, {0}}, sets[3] = {{0}, {0}, {0}}, none = {0};
+    vers_sorted none = {0}, lists[2] = {none, none}, sets[3] = {none, none, none};
     is("of none", vers_sorted_union(&lists[0], &none, &sets[0]), VERS_REFUSED);
     for (size_t k = 0; k < 2; k++) {
         for (size_t i = 0; i < n; i++) v[k][i] = next() % most;
