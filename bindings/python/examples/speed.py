@@ -4,6 +4,7 @@
 """
 
 import bisect
+import operator
 import sys
 import time
 from concurrent.futures import ThreadPoolExecutor
@@ -47,10 +48,31 @@ def of_ranges(call):
     return lambda starts, ends: numpy.array([call(a, b) for a, b in zip(starts.tolist(), ends.tolist())])
 
 
+def range_rows(random, elements, symbols, matrix):
+    """The rows of queries of ranges, which numpy reads item by item."""
+    starts, ends = ranges_of(random, len(symbols), 1_000)
+    row("`WaveletMatrix.range_median` of a tenth of the items; `partition`", matrix.range_median,
+        of_ranges(lambda a, b: numpy.partition(symbols[a:b], (b - a - 1) // 2)[(b - a - 1) // 2]), starts, ends)
+    values = random.permutation(elements)
+    row("`FastRmq.range_min` of a tenth of the items; `argmin`", vers.FastRmq(values).range_min,
+        of_ranges(lambda a, b: a + values[a:b + 1].argmin()), starts, ends - numpy.uint64(1))
+
+
+def set_rows(random, items):
+    """The rows of sets of two lists of numbers."""
+    one, other = (numpy.unique(random.integers(0, 16 * items, items)) for _ in range(2))
+    lists = vers.EliasFanoVec(one), vers.EliasFanoVec(other)
+    for combine, by_numpy in ((operator.and_, numpy.intersect1d), (operator.or_, numpy.union1d),
+                              (operator.sub, numpy.setdiff1d)):
+        assert (numpy.asarray(combine(*lists)) == by_numpy(one, other)).all()
+        times = best(lambda: combine(*lists), len(one)), best(lambda: by_numpy(one, other), len(one))
+        print(f"| `{combine.__name__}` of two `EliasFanoVec`, an element; `{by_numpy.__name__}` | |", " | ".join(times), "|")
+
+
 def main(items=1_000_000, queries=1_000_000):
     """Prints the table."""
     random = numpy.random.default_rng(1)
-    print("| query | single call | in `each` | numpy |\n|---|---:|---:|---:|")
+    print("| query | single call | of an array | numpy |\n|---|---:|---:|---:|")
 
     flags = random.integers(0, 2, items)
     bits = vers.RsVec(flags)
@@ -74,12 +96,8 @@ def main(items=1_000_000, queries=1_000_000):
     matrix = vers.WaveletMatrix(symbols, 8)
     row("`WaveletMatrix.get`; by index", matrix.get, lambda it: symbols[it], places)
 
-    starts, ends = ranges_of(random, items, 1_000)
-    row("`WaveletMatrix.range_median` of a tenth of the items; `partition`", matrix.range_median,
-        of_ranges(lambda a, b: numpy.partition(symbols[a:b], (b - a - 1) // 2)[(b - a - 1) // 2]), starts, ends)
-    values = random.permutation(elements)
-    row("`FastRmq.range_min` of a tenth of the items; `argmin`", vers.FastRmq(values).range_min,
-        of_ranges(lambda a, b: a + values[a:b + 1].argmin()), starts, ends - numpy.uint64(1))
+    range_rows(random, elements, symbols, matrix)
+    set_rows(random, items)
 
     with ThreadPoolExecutor(2) as pool:
         taken = [best(lambda: list(pool.map(matrix.get, [places] * count)), count * queries) for count in (1, 2)]
