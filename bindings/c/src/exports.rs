@@ -9,7 +9,7 @@ use crate::programs::vers_c::answer::VersAnswer;
 use crate::programs::vers_c::asked::Ask;
 use crate::programs::vers_c::handle::VersHandle;
 use crate::programs::vers_c::status::REFUSED;
-use crate::programs::vers_c::{asks, builds, documents, quick, saves, sets, shares, texts};
+use crate::programs::vers_c::{asks, builds, combine, documents, quick, saves, shares, texts};
 use crate::rattle::Global;
 use std::panic::{catch_unwind, AssertUnwindSafe};
 use std::slice;
@@ -153,7 +153,7 @@ exports! {
         fn vers_save(handle: &mut VersHandle, bytes: &mut [u8]) -> u32;
         fn vers_load(code: u32, bytes: &[u8], handle: &mut VersHandle) -> u32;
     }
-    sets {
+    combine {
         fn vers_combine(one: &mut VersHandle, other: &mut VersHandle, code: u32, into: &mut VersHandle) -> u32;
     }
     shares {

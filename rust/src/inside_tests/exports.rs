@@ -8,12 +8,12 @@ use crate::programs::vers_c::builds::{
     vers_sorted_build, vers_sparse_build, vers_symbols_build, vers_symbols_build_bytes, vers_symbols_build_u16s,
     vers_symbols_build_u32s, vers_tree_build,
 };
+use crate::programs::vers_c::combine::vers_combine;
 use crate::programs::vers_c::documents::{vers_documents, vers_inverted_build, vers_joined};
 use crate::programs::vers_c::handle::VersHandle;
 use crate::programs::vers_c::held::Held;
 use crate::programs::vers_c::quick;
 use crate::programs::vers_c::saves::{vers_load, vers_save, vers_saved_size};
-use crate::programs::vers_c::sets::vers_combine;
 use crate::programs::vers_c::shares::{vers_clone, vers_free, vers_intersect};
 use crate::programs::vers_c::texts::{
     vers_count, vers_count_each, vers_extract, vers_first_places, vers_places, vers_text_build, vers_text_build_bytes,
