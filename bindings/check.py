@@ -30,6 +30,8 @@ import shutil
 import subprocess
 import sys
 import tempfile
+import threading
+from concurrent.futures import ThreadPoolExecutor
 
 HERE = os.path.dirname(os.path.abspath(__file__))
 TOP = os.path.dirname(HERE)
@@ -61,25 +63,23 @@ class Checks:
 
     def __init__(self, is_quick):
         self.passed, self.failed, self.left_out, self.library, self.is_quick = 0, 0, [], "", is_quick
+        self.counting = threading.Lock()
         self.folder = tempfile.mkdtemp(prefix="vers")
 
     def run(self, what, command, wanted=None, **more):
         """Runs a command, which has to end with status 0 and to print what is wanted."""
         pipes = {"stdin": subprocess.DEVNULL, "stdout": subprocess.PIPE, "stderr": subprocess.STDOUT}
         done = subprocess.run(command, text=True, **pipes, **more)
-        if done.returncode == 0 and wanted in (None, done.stdout):
-            self.passed += 1
-            return True
-        self.failed += 1
-        print(f"failed: {self.library}{what}: {' '.join(command)}\n{done.stdout[-3000:]}")
-        if wanted is not None:
-            print(f"wanted:\n{wanted}")
-        return False
+        is_right = done.returncode == 0 and wanted in (None, done.stdout)
+        asked = f"\nwanted:\n{wanted}" if wanted is not None else ""
+        self.note(is_right, f"{what}: {' '.join(command)}\n{done.stdout[-3000:]}{asked}")
+        return is_right
 
     def note(self, is_right, said):
         """Counts a check, and prints a line if it fails."""
-        self.passed += is_right
-        self.failed += not is_right
+        with self.counting:
+            self.passed += is_right
+            self.failed += not is_right
         if not is_right:
             print(f"failed: {self.library}{said}")
 
@@ -472,11 +472,23 @@ def check_all(checks, library):
     if not library.built(checks):
         return
     link = library.link()
+    with ThreadPoolExecutor(2) as pool:
+        parts = [pool.submit(it, checks, library, link) for it in (check_compiled, check_interpreted)]
+        for part in parts:
+            part.result()
+
+
+def check_compiled(checks, library, link):
+    """C and C++: tests, and what is installed."""
     check_c(checks, link)
     check_cpp(checks, link)
     prefix = installed(checks, link)
     check_pkg_config(checks, prefix)
     check_cmake_packages(checks, library, prefix)
+
+
+def check_interpreted(checks, library, link):
+    """Python, and the pages, which use the shared library of its tests."""
     check_python(checks, library)
     check_pages(checks, link)
 
