@@ -15,9 +15,9 @@
  *  return VERS_VACANT.
  *
  *  Memory. A list copies the arrays that it is made from, so the caller may change or free them when the call returns.
- *  Only `_free` frees what a call has put into a handle (`_of`, `_load`, `_clone`, `_intersect`, `_places`,
- *  `_extract`). Answers are numbers, never pointers. If an allocation fails, a call returns VERS_NO_MEMORY and changes
- *  nothing. A batch of queries of symbols allocates memory too; if that fails, it takes more time.
+ *  Only `_free` frees what a call has put into a handle, such as `_of`, `_load`, `_clone`, `_union` or `_places`.
+ *  Answers are numbers, never pointers. If an allocation fails, a call returns VERS_NO_MEMORY and changes nothing. A
+ *  batch of queries of symbols allocates memory too; if that fails, it takes more time.
  *
  *  Threads. One thread at a time uses a handle, also for queries. Each thread uses a handle of its own, which `_clone`
  *  makes in constant time: many threads may query and free the handles of one list at once, and the last `_free` frees
