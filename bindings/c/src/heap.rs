@@ -98,7 +98,7 @@ mod tests {
         }
         for _ in 0..4 {
             // the system reuses the block
-            drop(vec![1_u64; PAGE / 8]);
+            drop(vec![u64::MAX; PAGE / 8]);
             assert!(vec![0_u64; PAGE / 8].iter().all(|it| *it == 0));
         }
     }
@@ -106,12 +106,28 @@ mod tests {
     #[test]
     fn lists_keep_their_items_across_sizes() {
         let mut list: Vec<u64> = (0..1000).collect();
-        for count in [PAGE / 8, PAGE / 2, PAGE / 8 - 1, 10, PAGE] {
+        for count in [PAGE / 8, PAGE / 2, PAGE, PAGE / 4, PAGE / 8 - 1, 10, PAGE] {
             list.truncate(count);
             let first = list.len() as u64;
             list.extend(first..count as u64);
             list.shrink_to_fit();
             assert!(list.len() == count && list.iter().zip(0..).all(|(it, k)| *it == k));
+            assert!(count < PAGE / 8 || is_placed(&list));
         }
+    }
+
+    #[test]
+    #[cfg(target_os = "linux")]
+    fn blocks_of_other_sizes_are_freed() {
+        let mapped = || -> usize {
+            let pages = std::fs::read_to_string("/proc/self/statm").unwrap();
+            4096 * pages.split(' ').next().unwrap().parse::<usize>().unwrap()
+        };
+        let before = mapped();
+        for _ in 0..10 {
+            let mut list: Vec<u8> = Vec::with_capacity(32 * PAGE);
+            list.shrink_to(20 * PAGE);
+        }
+        assert!(mapped() < before + 5 * 32 * PAGE);
     }
 }
