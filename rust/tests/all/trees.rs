@@ -225,3 +225,27 @@ fn ones_of_uneven_parentheses_answer_as_their_pages_say() {
     assert_eq!((tree.level_leftmost(0), tree.level_leftmost(1)), (Some(0), tree.fwd_search(0, 1)));
     assert_eq!(tree.level_rightmost(1), tree.bwd_search(3, 1).and_then(|position| tree.open(position)));
 }
+
+/// A forest of roots that are leaves, with only the calls that a `Tree` requires.
+struct Leaves(usize);
+
+#[rustfmt::skip]
+impl Tree for Leaves {
+    type NodeHandle = usize;
+    fn root(&self) -> Option<usize> { self.0.checked_sub(1).and(Some(0)) }
+    fn parent(&self, _: usize) -> Option<usize> { None }
+    fn first_child(&self, _: usize) -> Option<usize> { None }
+    fn next_sibling(&self, node: usize) -> Option<usize> { Some(node + 1).filter(|&it| it < self.0) }
+    fn previous_sibling(&self, node: usize) -> Option<usize> { node.checked_sub(1) }
+    fn last_child(&self, _: usize) -> Option<usize> { None }
+    fn node_index(&self, node: usize) -> usize { node }
+    fn node_handle(&self, index: usize) -> usize { index }
+    fn is_leaf(&self, _: usize) -> bool { true }
+    fn depth(&self, _: usize) -> u64 { 0 }
+    fn size(&self) -> usize { self.0 }
+}
+
+#[test]
+fn a_tree_of_a_user_is_empty_without_nodes() {
+    assert_eq!([0, 1, 2].map(|nodes| Leaves(nodes).is_empty()), [true, false, false]);
+}
