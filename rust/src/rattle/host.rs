@@ -1,6 +1,7 @@
 //! What programs get from the system.
 
-use std::io;
+use std::io::{self, Write};
+use std::process;
 
 use super::{AllocError, Allocator, Global, Vec};
 
@@ -20,14 +21,35 @@ impl HostRuntime {
     }
 
     /// Returns standard output.
-    pub fn stdout(&self) -> io::Stdout {
-        io::stdout()
+    pub fn stdout(&self) -> Stdout {
+        Stdout(io::stdout())
     }
 
     /// Returns standard error.
     pub fn stderr(&self) -> io::Stderr {
         io::stderr()
     }
+}
+
+/// Standard output. When its reader has gone, as `head` does, a write ends the program without a message, with the status
+/// by which a shell shows that SIGPIPE ended a program.
+pub struct Stdout(io::Stdout);
+
+impl Write for Stdout {
+    fn write(&mut self, buf: &[u8]) -> io::Result<usize> {
+        self.0.write(buf).map_err(unless_unread)
+    }
+
+    fn flush(&mut self) -> io::Result<()> {
+        self.0.flush().map_err(unless_unread)
+    }
+}
+
+fn unless_unread(error: io::Error) -> io::Error {
+    if error.kind() == io::ErrorKind::BrokenPipe {
+        process::exit(128 + 13);
+    }
+    error
 }
 
 /// Arguments.
@@ -61,7 +83,7 @@ pub mod env {
 macro_rules! print_line {
     ($($word:tt)*) => {{
         use std::io::Write;
-        writeln!(std::io::stdout(), $($word)*)
+        writeln!($crate::rattle::host::HostRuntime.stdout(), $($word)*)
     }};
 }
 
