@@ -327,6 +327,8 @@ class Makers(unittest.TestCase):
             "bits": lambda: iter(bits), "growing": lambda: iter(vers.BitVec(bits)), "ones": bits.iter1,
             "numbers": lambda: iter(vers.EliasFanoVec(range(5000))), "text": lambda: iter(vers.TextIndex(bytes(5000))),
             "sparse": vers.SparseRSVec(range(5000), 5000).iter1, "nodes": vers.BpTree("()" * 5000).dfs_iter,
+            "reversed": lambda: reversed(vers.EliasFanoVec(range(5000))),
+            "reversed text": lambda: reversed(vers.TextIndex(bytes(5000))),
         }
         for name, made in loops.items():
             items, count[0] = made(), 0
@@ -335,6 +337,24 @@ class Makers(unittest.TestCase):
             sys.setprofile(None)
             with self.subTest(name):
                 self.assertLess(count[0], 500)
+
+    def test_loops_from_the_back(self):
+        for size in (0, 1, 4096, 4097, 10_000):
+            items = [it * it % 7 & 1 for it in range(size)]
+            for made in (vers.RsVec(items), vers.BitVec(items), vers.FastRmq(items), vers.WaveletMatrix(items, 1),
+                         vers.TextIndex(items, 1)):
+                self.assertEqual(list(reversed(made)), items[::-1])
+
+    def test_loops_over_bits_that_change(self):
+        bits = vers.BitVec([1] * 10_000)
+        seen = iter(bits)
+        self.assertEqual(next(seen), 1)
+        bits.drop_last(5_000)
+        self.assertEqual(list(seen), [1] * 4_999)
+        seen = iter(bits)
+        self.assertEqual(next(seen), 1)
+        bits.extend([0] * 5)
+        self.assertEqual(list(seen), [1] * 4_999 + [0] * 5)
 
     @unittest.skipIf(numpy is None, "numpy isn't there")
     def test_positions_of_ones_in_numpy(self):
@@ -371,6 +391,13 @@ class Makers(unittest.TestCase):
             before, address = made.tolist(), made._at
             made.__init__([1])
             self.assertEqual((made.tolist(), made._at), (before, address))
+
+    def test_indexes(self):
+        index = "^an index is a whole number or a slice, and not of type "
+        self.refuses((vers.RsVec([1]).__getitem__, vers.BitVec([1]).__getitem__), TypeError,
+                     index + "(list|array); `get` takes an array$", [0], array("Q", [0]))
+        self.refuses((vers.RsVec([1]).__getitem__, vers.TextIndex([1]).__getitem__), TypeError, index + "float$", 0.5)
+        self.refuses((vers.TextIndex([1]).__getitem__,), TypeError, index + "list$", [0])
 
     def test_other_types(self):
         bits = vers.RsVec([1])

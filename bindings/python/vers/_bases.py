@@ -198,12 +198,19 @@ class List(Generic[Q]):
         for first in range(start, end, 4096):
             yield self._part(first, min(first + 4096, end))
 
+    def _reversed(self) -> Iterator[int]:
+        """Returns the items from the last one to the first one."""
+        ends = range(len(self), 0, -4096)
+        return chain.from_iterable(self._part(max(end - 4096, 0), end)[::-1] for end in ends)
+
     def _position(self, position: Any) -> int:
         """Returns a position, which is from the end if it is negative."""
         try:
             at = operator.index(position)
         except TypeError:
-            raise TypeError(f"an index is a whole number or a slice, and not of type {type(position).__name__}") from None
+            hint = "; `get` takes an array" if "get" in self._queries and _buffers.is_many(position) else ""
+            kind = type(position).__name__
+            raise TypeError(f"an index is a whole number or a slice, and not of type {kind}{hint}") from None
         at = at + self._length() if at < 0 else at
         if not 0 <= at <= NONE:
             raise IndexError(f"no item at {position}")
@@ -404,6 +411,9 @@ class Items(List[Q], Sequence[int]):
 
     def __iter__(self) -> Iterator[int]:
         return chain.from_iterable(self._parts(0, len(self)))
+
+    def __reversed__(self) -> Iterator[int]:
+        return self._reversed()
 
     def index(self, value: Any, start: int = 0, stop: Optional[int] = None) -> int:
         """Returns the first position of an item, from `start` on and below `stop`. Raises ValueError if there is

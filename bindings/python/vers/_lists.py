@@ -4,7 +4,7 @@ from __future__ import annotations
 
 import os
 from array import array
-from itertools import chain, compress
+from itertools import chain, compress, count, takewhile
 from typing import Any, Iterable, Iterator, List, Literal, Optional, Tuple, Union
 
 from . import _buffers, _codes as codes, _fasta, _files, _library as library
@@ -120,6 +120,12 @@ class BitVec(Bits[_BitVecQuery]):
         if at >= len(self):
             raise IndexError(f"no item at {position}")
         self._change(codes.SET, at, _buffers.bit(bit))
+
+    def __iter__(self) -> Iterator[int]:
+        """Returns the bits, up to the end that the list then has. They are read 4096 at a time, so that a loop may miss
+        a change of the next ones."""
+        starts = takewhile(lambda start: start < len(self), count(0, 4096))
+        return chain.from_iterable(self._part(start, min(start + 4096, len(self))) for start in starts)
 
     def __delitem__(self, position: Any) -> None:
         raise TypeError("'BitVec' object doesn't support item deletion; `drop_last` drops the last bits")
@@ -1070,6 +1076,9 @@ class TextIndex(Shared[str]):
 
     def __iter__(self) -> Iterator[int]:
         return chain.from_iterable(self._parts(0, len(self)))
+
+    def __reversed__(self) -> Iterator[int]:
+        return self._reversed()
 
     def _traits(self) -> Any:
         return len(self), self.bits_per_symbol()
