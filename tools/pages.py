@@ -10,6 +10,8 @@ and what its time is for, such as "`iter1`, a position".
 It also lists the names that the facade exports, and the calls of its types, that are neither in the table of our own
 names in docs/DIFFERENCES.md nor among those of vers-vecs (tools/original_names.txt), and the names in the first that
 aren't our own. Counted forms and laws are all our own.
+
+`--check` compares the pages with what would be written, and `--self-test` plants what it has to find.
 """
 import re
 import sys
@@ -20,7 +22,7 @@ import definitions
 import manual
 from plain_rust import CRATES
 from rust_contracts import ADDS, facade_files
-from sources import TOP, public_functions, read, read_crate, write_or_check
+from sources import TOP, missed_plants, public_functions, read, read_crate, report_tests, write_or_check
 
 PAGE, DIFFERENCES, FACADE = "docs/CALLS.md", "docs/DIFFERENCES.md", "crates/vers_vecs/src/lib.rt"
 ORIGINAL = "tools/original_names.txt"
@@ -169,7 +171,31 @@ def misplaced_names():
     yield from (f"{DIFFERENCES}: `{name}` is no name of our own" for name in sorted(listed - own))
 
 
+LIST, SPARSE, STALE = "crates/vers_bits/src/bit_vec.rt", "crates/vers_sorted/src/sparse.rt", "isn't what tools/pages.py"
+# What `--check` has to print, and where which text is written instead of which.
+PLANTS = (
+    (f"{PAGE} {STALE}", LIST, "requires { 64 * k < length self.now }\n        ensures { result ≡ limb", "ensures { limb"),
+    (f"{PAGE} {STALE}", LIST, "/// Returns limb `k`: the 64 bits", "/// Returns limb `k`: all bits"),
+    (f"{PAGE} {STALE}", SPARSE, "pub fn rank0_counted(&self, position: u64, tally", "fn rank0_counted(&self, position: u64, tally"),
+    (f"{PAGE} {STALE}", "rust/src/bit_vec/mod.rs", "fn split_at_unchecked(", "fn split_unchecked("),
+    (f"{definitions.PAGE} {STALE}", "crates/vers_bits/specs/Bits.antt", "-- rank: how many of", "-- how many of"),
+    (f"{manual.PAGE} {STALE}", manual.HELP, "bits 0110  (a bit vector)", "bits 0110  (a list of bits)"),
+    (f"{README} {STALE}", SOURCE, "|`rank1`|7.6 (0.54)|", "|`rank1`|7.5 (0.54)|"),
+    ("has no table over 2^20 bits", SOURCE, "|operation|2^20 bits, 50%|2^20 bits, 5%|2^26 bits, 50%|", "|operation|a|b|c|"),
+    ("of our own names lacks `BitVec::limb`", DIFFERENCES, "| `BitVec::limb`, ", "| "),
+    ("`BitVec::limbs` is no name of our own", DIFFERENCES, "| `BitVec::limb`, ", "| `BitVec::limb`, `BitVec::limbs`, "),
+)
+
+
+def self_test():
+    """Returns the exit status, 1 if a plant isn't found."""
+    parts = ("crates", "docs", "rust/src", "tools", README)
+    return report_tests(len(PLANTS), [*missed_plants(("tools/pages.py", "--check"), parts, PLANTS)])
+
+
 if __name__ == "__main__":
+    if "--self-test" in sys.argv:
+        sys.exit(self_test())
     misplaced = list(misplaced_names())
     print("".join(f"{it}\n" for it in misplaced), end="", file=sys.stderr)
     readme = with_figures(read(README), figures())

@@ -13,6 +13,8 @@ import re
 import shutil
 import subprocess
 import sys
+import tempfile
+from concurrent.futures import ThreadPoolExecutor
 from functools import cached_property
 from itertools import takewhile
 from pathlib import Path
@@ -251,6 +253,30 @@ def report_tests(count, faults):
     """Prints which tests fail, and the numbers of those that pass and fail; returns the exit status."""
     print("".join(f"{it}\n" for it in faults) + f"{count - len(faults)} passed, {len(faults)} failed")
     return int(bool(faults))
+
+
+def missed_plants(script, parts, plants):
+    """Plants faults, each in a copy of parts of the repository, and yields those that a script doesn't report there. A
+    fault is what has to be printed, a path, and what is written there for what."""
+    unused = shutil.ignore_patterns("out", "proofs", "wrong", "target", "__pycache__")
+
+    def output(plant):
+        _, path, old, new = plant
+        with tempfile.TemporaryDirectory(prefix="planted-") as top:
+            for it in parts:
+                os.makedirs(os.path.dirname(f"{top}/{it}"), exist_ok=True)
+                if os.path.isdir(f"{TOP}/{it}"):
+                    shutil.copytree(f"{TOP}/{it}", f"{top}/{it}", ignore=unused)
+                else:
+                    shutil.copy(f"{TOP}/{it}", f"{top}/{it}")
+            write_files(top, {path: read(path).replace(old, new)})
+            done = subprocess.run([sys.executable, f"{top}/{script[0]}", *script[1:]], capture_output=True, text=True)
+            return done.stdout + done.stderr if done.returncode == 1 else ""
+
+    with ThreadPoolExecutor(os.cpu_count()) as pool:
+        for (expected, path, old, _), printed in zip(plants, pool.map(output, plants)):
+            if expected not in printed or old not in read(path):
+                yield f"not found in {path}: {expected}"
 
 
 def write_files(top, files):
