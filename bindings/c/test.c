@@ -178,7 +178,14 @@ static void test_statuses(void) {
     is("built again", vers_bits_of(&list, NULL, 0, 9), VERS_DONE);
     found("empty", 0, vers_bits_len(&list), 0);
     vers_bits_free(&list);
-    is("text", strcmp(vers_status_text(VERS_DONE), "done") == 0, 1);
+    static const char *const words[] = {
+        "done", "no such thing", "no such query", "is empty", "refused", "already", "no memory", "another handle",
+        "cut off", "begin as", "another version", "another kind", "as long", "the sum", "past the end", "ascend",
+        "no text", "no status", "no status",
+    };
+    for (uint32_t k = 0; k < sizeof words / sizeof *words; k++)
+        is("text", strstr(vers_status_text(k), words[k]) != NULL, 1);
+    is("the last status", strstr(words[VERS_NOT_A_TEXT], "no text") != NULL, 1);
     is("text of none", strcmp(vers_status_text(1000), "no status of this library") == 0, 1);
 }
 
@@ -1146,12 +1153,28 @@ static void test_forms(size_t n) {
     free(ones);
 }
 
-/* What each type has: another handle answers alike, also many queries at once, when the first one is freed. */
+/* Two handles have lists of one kind, which answer alike. */
+static void are_alike(vers_handle *list, vers_handle *other) {
+    for (uint32_t code = 0; code <= VERS_TERM_SUCCESSOR; code++) {
+        vers_answer wanted = vers_ask(list, code, 1, 2, 2);
+        compare("loaded", code, vers_ask(other, code, 1, 2, 2), wanted.status, wanted.value);
+    }
+    is("loaded change", vers_change(other, VERS_DROP_LAST, 0, 0), vers_change(list, VERS_DROP_LAST, 0, 0));
+}
+
+/* What each type has: a list that is loaded, and another handle, answer alike, also many queries at once, when the first
+ * one is freed. */
 #define TEST_TYPE(type, query, ...)                                                        \
     do {                                                                                   \
         vers_##type list = {0}, other = {0};                                               \
         uint64_t asked[] = {0, 3, 9}, each[] = {0, 3, 9};                                  \
+        uint8_t bytes[400];                                                                \
         is(#type " of", vers_##type##_of(&list, __VA_ARGS__), VERS_DONE);                  \
+        size_t size = (size_t)vers_##type##_saved_size(&list).value;                       \
+        is(#type " save", vers_##type##_save(&list, bytes, size), VERS_DONE);              \
+        is(#type " load", vers_##type##_load(&other, bytes, size), VERS_DONE);             \
+        are_alike(&list.handle, &other.handle);                                            \
+        vers_##type##_free(&other);                                                        \
         is(#type " clone", vers_##type##_clone(&list, &other), VERS_DONE);                 \
         found(#type " len", 0, vers_##type##_len(&other), vers_##type##_len(&list).value); \
         vers_##type##_free(&list);                                                         \

@@ -75,6 +75,15 @@ static uint32_t combine(vers_handle *handle) {
     vers_sorted_free(&other);
     return status;
 }
+/* A list is combined with itself by a clone of its handle. */
+static uint32_t combine_alone(vers_handle *handle) {
+    vers_sorted list = {0}, into = {0};
+    uint32_t status = vers_sorted_of(&list, numbers, COUNT);
+    if (status == VERS_DONE) status = vers_sorted_union(&list, &list, &into);
+    vers_sorted_free(&list);
+    *handle = into.handle;
+    return status;
+}
 static uint32_t intersect(vers_handle *handle) { return vers_intersect(&one, &two, handle); }
 
 /* The saved form of a list, and the kind that it is loaded as. */
@@ -192,6 +201,7 @@ int main(void) {
     test_fill("clone", clone);
     test_fill("intersect", intersect);
     test_fill("combine", combine);
+    test_fill("combine alone", combine_alone);
     test_append();
     test_many();
     test_form("form of growing", growing, VERS_KIND_GROWING);
