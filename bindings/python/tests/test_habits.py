@@ -87,6 +87,8 @@ class Makers(unittest.TestCase):
         self.assertEqual(vers.RsVec(long).tolist(), [0, 1] * 50_000)
         self.refuses(BIT_MAKERS, ValueError, "^the character at position 3 is 'x', and bits are 0 or 1", "011x")
         self.refuses(BIT_MAKERS, ValueError, "^the character at position 100000 is 'x'", long + "x")
+        self.refuses(BIT_MAKERS, ValueError, "^the character at position 1 is '\u0661'", "0\u0661x")
+        self.refuses(BIT_MAKERS, ValueError, r"^the character at position 1 is '\\ud800'", "0\ud800")
 
     def test_bytes_of_bits(self):
         content = bytes([0, 1, 1, 0])

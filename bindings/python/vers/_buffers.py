@@ -379,14 +379,16 @@ def _bytes_of(chunk: Any) -> Optional[bytes]:
 
 def _flags_of_text(text: str, digits: str) -> Iterator[bytes]:
     """Returns the bits of a text, as bytes that are 0 or 1."""
-    values = str.maketrans(digits, "\0\1" * (len(digits) // 2))
+    known = digits.encode()
+    values = bytes.maketrans(known, b"\0\1" * (len(known) // 2))
     for start in range(0, len(text), CHUNK):
-        chunk = text[start:start + CHUNK]
-        if not set(digits).issuperset(chunk):
-            position, wrong = next((k, it) for k, it in enumerate(chunk) if it not in digits)
-            shown = " or ".join(digits)
-            raise ValueError(f"the character at position {start + position} is {wrong!r}, and bits are {shown}")
-        yield chunk.translate(values).encode()
+        # a character outside ASCII becomes a question mark
+        chunk = text[start:start + CHUNK].encode("ascii", "replace")
+        wrong = chunk.translate(None, known)
+        if wrong:
+            position, shown = start + chunk.index(wrong[:1]), " or ".join(digits)
+            raise ValueError(f"the character at position {position} is {text[position]!r}, and bits are {shown}")
+        yield chunk.translate(values)
 
 
 def above(what: str, numbers: Held, most: int) -> str:
