@@ -57,5 +57,8 @@ int main() {
     (void)(*vers::TextIndex::from(unsigned_numbers, 2))[0];
 #elif REFUSED == 21
     (void)(*vers::InvertedIndex::from(3, 3, unsigned_numbers, unsigned_numbers))[0];
+#elif REFUSED == 22
+    vers::Status status;
+    (void)vers::RsVec::from_words(unsigned_numbers, 64, status);
 #endif
 }

@@ -53,6 +53,9 @@ static void test_owner(List list) {
     check("moved from", list.len() == 0);
     moved = std::move(other);
     check("assigned", moved.len() == length);
+    List &same = moved;
+    moved = std::move(same);
+    check("moved to itself", moved.len() == length);
     Status status;
     check("clone", moved.clone(status)->len() == length && status == Status::done);
     check("clone of none", !list.clone(status) && status == Status::vacant);
@@ -147,6 +150,9 @@ static void test_from_bits(const Numbers &bits) {
 // Lists of bits or numbers differ from those with another item, or with one more.
 template <class List, class Make>
 static void test_differences(const Numbers &items, Make make) {
+    // those of a group of queries and one more too, and of a word and a bit
+    const std::ptrdiff_t less = items.size() > 257 ? 257 : 65;
+    if (items.size() > 65) test_differences<List>(Numbers(items.begin(), items.begin() + less), make);
     const List list = make(items);
     check("equal", list == make(items) && make({}) == make({}));
     const std::size_t last_word = items.size() / 64 * 64;
@@ -204,6 +210,8 @@ static void test_bit_vec() {
     {
         vers::BitVec other = list.clone();
         check("shared", list.append(true) == Status::shared);
+        other = vers::BitVec();
+        check("no longer shared", list.drop_last(0) == Status::done);
     }
     check("alone", list.append(true) == Status::done && list.get(6) == Found(1));
     const bool truths[] = {true, false};

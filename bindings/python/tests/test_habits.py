@@ -27,7 +27,7 @@ from concurrent.futures import ThreadPoolExecutor
 from unittest import mock
 
 import vers
-from vers import _bases, _buffers, _library, parts
+from vers import _bases, _buffers, _codes, _library, parts
 
 try:
     import numpy
@@ -376,6 +376,13 @@ class Makers(unittest.TestCase):
         for kind in (ctypes.c_uint8, ctypes.c_uint32, ctypes.c_uint64, ctypes.c_int16):
             self.assertEqual(vers.EliasFanoVec((kind * 3)(1, 2, 9)).tolist(), [1, 2, 9])
             self.assertEqual(vers.RsVec((kind * 3)(1, 0, 1)).tolist(), [1, 0, 1])
+        for kind in (ctypes.c_uint64.__ctype_be__, ctypes.c_uint64.__ctype_le__):
+            self.assertEqual(vers.EliasFanoVec((kind * 2)(1, 2)).tolist(), [1, 2])
+
+    def test_consecutive_numbers(self):
+        for start in 0, (1 << 16) - 2, (1 << 32) - 2, (1 << 48) - 2, vers.NONE - 4:
+            self.assertEqual(_buffers.numbers_from(start, start + 4), array("Q", range(start, start + 4)))
+        self.assertEqual(vers.SparseRSVec([1 << 40], 1 << 41)[(1 << 40) - 1:(1 << 40) + 2].tolist(), [0, 1, 0])
 
     def test_large_buffers(self):
         content = bytes(2_000_000)
@@ -479,6 +486,8 @@ class Arrays(unittest.TestCase):
         found = bits.successor1(places)
         self.assertEqual((found.tolist(), found.dtype), ([[2, None], [None, None]], numpy.int64))
         self.assertEqual(bits.predecessor0(places).tolist(), [[None, 1], [1, 1]])
+        self.assertEqual(bits.successor1(numpy.array([vers.NONE], "u8")).tolist(), [None])
+        self.assertEqual(numpy.asarray(vers.EliasFanoVec([5, 123]), str).tolist(), ["5", "123"])
         self.assertEqual(tree.parent(numpy.array([0, 3])).tolist(), [None, 0])
         self.assertEqual(tree.each("parent", numpy.array([0, 3]), other=-1).tolist(), [-1, 0])
         self.assertEqual(numbers.get(numpy.array([0, 1, 2])).tolist(), [3, vers.NONE, None])
@@ -745,6 +754,10 @@ class Fasta(unittest.TestCase):
             found = [(name, k) for name, bases in made for k in range(len(bases)) if bases.startswith(pattern, k)]
             self.assertEqual(text.sites(pattern), found)
 
+    def test_saved_without_memory(self):
+        with mock.patch.object(_library, "save", return_value=_codes.NO_MEMORY), self.assertRaises(vers.NoMemory):
+            vers.RsVec("10").to_bytes()
+
     def test_files(self):
         with tempfile.TemporaryDirectory() as folder:
             path, index = os.path.join(folder, "two.fa"), os.path.join(folder, "two.vers")
@@ -805,6 +818,8 @@ class Habits(unittest.TestCase):
         ]
         for one, other in different:
             self.assertTrue(one != other and not one == other, (one, other))
+        one, other = ([first, *range(1, 10_000)] for first in (0, 1))
+        self.assertNotEqual(hash(vers.EliasFanoVec(one)), hash(vers.EliasFanoVec(other)))
         one, other = vers.TextIndex(b"abracadabra" * 50), vers.TextIndex(b"abracadabra" * 50, 8, 3)
         self.assertEqual((one, hash(one)), (other, hash(other)))
         self.assertEqual(vers.WaveletMatrix([], 0), vers.WaveletMatrix([], 0))

@@ -195,6 +195,8 @@ class Lists(unittest.TestCase):
         self.assertEqual((made.close(0), made.open(11), made.enclose(4)), (11, 0, 1))
         self.assertEqual((made.fwd_search(0, -1), made.bwd_search(11, -1)), (11, 0))
         self.assertEqual((made.fwd_search(0, -(1 << 63)), made.bwd_search(11, (1 << 63) - 1)), (None, None))
+        for rise in (-(1 << 63) - 1, 1 << 63):
+            self.assertRaisesRegex(OverflowError, f"^the rise is {rise}", made.fwd_search, 0, rise)
         self.assertEqual((made.depth(8), made.node_index(8), made.node_handle(5)), (2, 5, 8))
         self.assertEqual((made.level_next(4), made.level_prev(8), made.level_ancestor(8, 2)), (8, 4, 0))
         self.assertEqual((made.level_leftmost(2), made.level_rightmost(2), made.level_leftmost(3)), (2, 8, None))

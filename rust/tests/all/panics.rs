@@ -63,6 +63,7 @@ fn lists_of_bits_stop() {
         "no word has a bit at 128": bits.flip_bit_unchecked(128);
         "no word has a bit at 128": bits.set_unchecked(128, 1);
         "no word has a bit at 128": bits.get_unchecked(128);
+        "no word has a bit at 64": BitVec::from_ones(64).get_unchecked(64);
         "no word has a bit": bits.is_bit_set_unchecked(FAR);
         "no word has a bit at 129": bits.get_bits_unchecked(70, 60);
         "no word has a bit": bits.get_bits_unchecked(FAR, 2);
@@ -72,6 +73,7 @@ fn lists_of_bits_stop() {
         "can't be split at 71": bits.clone().split_at_unchecked(71);
         "too many items": BitVec::from_zeros(FAR);
     }
+    assert_eq!(bits.set(70, 1), Err("out of range"));
     assert_eq!(bits, BitVec::from_ones(70), "a call that panics changes nothing");
     assert_eq!((bits.get_bits_unchecked(1000, 0), bits.get_bits_unchecked(60, 20)), (0, (1 << 10) - 1));
     assert_eq!((bits.unpack_element_unchecked(3, 0), bits.unpack_element_unchecked(2, 32)), (0, 63));
