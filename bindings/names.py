@@ -3,7 +3,8 @@
 
 The calls are the public ones of the library, as docs/CALLS.md has them. A call has its own name in each language, or
 that of `NAMES`, or is left out for a reason in `LEFT_OUT`. Each name has to be in the header, the classes and the
-crate; a call that is neither named nor left out is a fault.
+crate; a call that is neither named nor left out is a fault. `--check` compares the page with what would be written, and
+`--self-test` plants what it has to find.
 """
 import os
 import re
@@ -14,7 +15,7 @@ from glob import glob
 
 sys.path.append(os.path.join(os.path.dirname(os.path.abspath(__file__)), "../tools"))
 from pages import CRATES, public_calls
-from sources import TOP, read, write_or_check
+from sources import TOP, missed_plants, read, report_tests, write_or_check
 
 PAGE, LANGUAGES = "bindings/NAMES.md", ("C", "C++", "Rust", "Python")
 # A structure, what its names begin with in C, and its files of the Rust crate.
@@ -94,6 +95,9 @@ LEFT_OUT = {
     "The two positions of a range are arguments.": "*Rmq.range_min_*",
     "`places` returns ascending positions, and `first_places` the first ones.": "TextIndex.places",
 }
+# What the script reads.
+PARTS = ("crates", "docs", "rust/src", "tools", "bindings/c/vers.h", "bindings/cpp/vers.hpp", "bindings/python/vers",
+         "bindings/names.py", PAGE)
 HEAD = """# Names
 
 The name of each call in C, C++, the Rust crate and Python. `bindings/names.py` writes this page from
@@ -197,5 +201,21 @@ def main():
     return write_or_check({PAGE: text}, "bindings/names.py") or int(bool(faults))
 
 
+# What `--check` has to print, and where which text is written instead of which.
+PLANTS = (
+    ("EliasFanoVec.delta: no delta in C", "bindings/c/vers.h", "vers_sorted_delta(", "vers_sorted_step("),
+    ("EliasFanoVec.delta: no delta in C++", "bindings/cpp/vers.hpp", "> delta(", "> step("),
+    ("EliasFanoVec.delta: no delta in Rust", "rust/src/elias_fano/mod.rs", "pub fn delta(", "pub fn step("),
+    ("EliasFanoVec.delta: no delta in Python", "bindings/python/vers/_lists.py", "def delta(", "def step("),
+    ("BpTree.is_empty: no is_empty in C", "bindings/names.py", '"*.is_empty": {"C": "len", ', '"*.is_empty": {'),
+    (f"{PAGE} isn't what", PAGE, "| Reason | Calls |", "| Calls | Reason |"),
+)
+
+
+def self_test():
+    """Returns the exit status, 1 if a plant isn't found."""
+    return report_tests(len(PLANTS), [*missed_plants(("bindings/names.py", "--check"), PARTS, PLANTS)])
+
+
 if __name__ == "__main__":
-    sys.exit(main())
+    sys.exit(self_test() if "--self-test" in sys.argv else main())

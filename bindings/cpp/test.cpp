@@ -721,6 +721,9 @@ static void test_equality() {
     check("long texts", whole == vers::TextIndex::from(long_text, 2, 8));
     long_text.back() ^= 1;
     check("the last symbol", whole != vers::TextIndex::from(long_text, 2));
+    long_text.back() ^= 1;
+    long_text[65535] ^= 1;
+    check("the last symbol of a piece", whole != vers::TextIndex::from(long_text, 2));
 }
 
 // The iterators of lists move by any distance.
