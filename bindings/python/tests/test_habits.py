@@ -494,6 +494,7 @@ class Arrays(unittest.TestCase):
         self.assertEqual(numbers.get(numpy.arange(2)).dtype, numpy.uint64)
         nodes = numpy.array([0, 1, 3])
         self.assertEqual(nodes[tree.is_leaf(nodes)].tolist(), [1, 3])
+        self.assertEqual(tree.each("is_open", numpy.array([0, 2, 9]), other=7).tolist(), [1, 0, 7])
         self.assertEqual((tree.depth(nodes) - tree.depth(0)).tolist(), [0, 1, 1])
         self.assertEqual((tree.depth(0) - tree.depth(nodes)).tolist(), [0, -1, -1])
         symbols = vers.WaveletMatrix([3, 1, 3], 2)
@@ -754,10 +755,6 @@ class Fasta(unittest.TestCase):
             found = [(name, k) for name, bases in made for k in range(len(bases)) if bases.startswith(pattern, k)]
             self.assertEqual(text.sites(pattern), found)
 
-    def test_saved_without_memory(self):
-        with mock.patch.object(_library, "save", return_value=_codes.NO_MEMORY), self.assertRaises(vers.NoMemory):
-            vers.RsVec("10").to_bytes()
-
     def test_files(self):
         with tempfile.TemporaryDirectory() as folder:
             path, index = os.path.join(folder, "two.fa"), os.path.join(folder, "two.vers")
@@ -786,13 +783,14 @@ class Fasta(unittest.TestCase):
         self.assertEqual(self.text.sequences(), [("ch", 4, 9), ("d", 12, 16)])
 
     def test_lines_that_are_wrong(self):
-        for lines in [b"AC"], [b">"], [b"> a"], [b">a", b"A C"], [b">a", b"A\rC"], [b">\xe4"], [b">a", b"A", b"1"]:
+        for lines in ([b"AC"], [b">"], [b"> a"], [b">a", b"A C"], [b">a", b"A\rC"], [b">\xe4"], [b">\x7f"],
+                      [b">a", b"A", b"1"]):
             self.refused(f"^line {len(lines)} is neither a header with a name nor", vers.TextIndex.from_fasta, lines)
 
     def test_other_texts(self):
         for text in b"GATTA", b"\nGAT", b"A\n\nGT", b"\n\nA", b"\nname\nGAT":
             self.refused("^the text isn't that of a FASTA file$", vers.TextIndex(text).sites, b"A")
-        for text in b"a\nbc\nGATTA\n", b"\nbc\nGATTA", b"\n\xe3\n\xe4\nTA\n":
+        for text in b"a\nbc\nGATTA\n", b"\nbc\nGATTA", b"\n\xe3\n\xe4\nTA\n", b"\n\xe3\nGATTA\nC":
             self.refused("^the text isn't that of a FASTA file$", vers.TextIndex(text).sites, b"TA")
         for symbols in [10, 200, 10, 65], []:
             self.refused("^the text isn't that of a FASTA file$", vers.TextIndex(symbols, 9).sequences)
@@ -884,6 +882,10 @@ class Habits(unittest.TestCase):
         with open(os.path.join(folder, "pyproject.toml"), encoding="utf-8") as file:
             self.assertIn(f'\nversion = "{vers.__version__}"\n', file.read())
 
+    def test_saved_without_memory(self):
+        with mock.patch.object(_library, "save", return_value=_codes.NO_MEMORY), self.assertRaises(vers.NoMemory):
+            vers.RsVec("10").to_bytes()
+
     def test_saved_while_it_changes(self):
         bits, saved_size = vers.BitVec([1, 0]), _library.saved_size
 
@@ -929,6 +931,14 @@ class Habits(unittest.TestCase):
             with open(os.path.join(folder, "plain"), "wb"):
                 bits.save(os.path.join(folder, "other"))
             self.assertEqual(*(os.stat(os.path.join(folder, it)).st_mode for it in ("plain", "other")))
+
+    @unittest.skipUnless(os.path.exists("/proc/self/fd"), "open files aren't there")
+    def test_files_reach_the_disk(self):
+        with tempfile.TemporaryDirectory() as folder, mock.patch.object(os, "fsync", wraps=os.fsync) as synced:
+            before = os.listdir("/proc/self/fd")
+            vers.RsVec("1").save(os.path.join(folder, "list.vers"))
+            # the file, and the folder, which has its name
+            self.assertEqual((synced.call_count, os.listdir("/proc/self/fd")), (2, before))
 
     def test_files_that_cannot_be_written(self):
         bits = vers.RsVec("1011")
