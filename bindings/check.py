@@ -6,6 +6,8 @@
     python3 bindings/check.py --cargo    only the library of cargo
     python3 bindings/check.py --quick    without clang, valgrind and pip
     python3 bindings/check.py --write    writes the codes anew, and checks nothing
+    python3 bindings/check.py --text     only the codes, and what vers.h says of the exports
+    python3 bindings/check.py --self-test    plants faults in these texts, and runs commands that fail
 
 - The codes of statuses, queries and changes in vers.h and in the Python package are those of
   crates/vers_c, one after another.
@@ -22,7 +24,9 @@
 
 It names what it leaves out because a tool is missing. The last line is "N passed, M failed".
 """
+import contextlib
 import glob
+import io
 import itertools
 import os
 import re
@@ -36,7 +40,7 @@ from concurrent.futures import ThreadPoolExecutor
 HERE = os.path.dirname(os.path.abspath(__file__))
 TOP = os.path.dirname(HERE)
 sys.path.append(os.path.join(TOP, "tools"))
-from sources import has_cargo
+from sources import has_cargo, missed_plants, report_tests
 
 C, CPP, PY = (os.path.join(HERE, it) for it in ("c", "cpp", "python"))
 ARCHIVE = os.path.join(TOP, "crates", "vers_c", "out", "libvers_c.a")
@@ -493,16 +497,42 @@ def check_interpreted(checks, library, link):
     check_pages(checks, link)
 
 
+# What `--text` has to print, and where which text is written instead of which.
+PLANTS = (
+    ("vers.h aren't those of crates/vers_c", "bindings/c/vers.h", "VERS_KIND_BITS = 1,", "VERS_KIND_BITS = 2,"),
+    ("_codes.py aren't those of crates/vers_c", "bindings/python/vers/_codes.py", "\nVACANT = 3\n", "\nVACANT = 4\n"),
+    ("doesn't say of vers_combine: The three handles differ", "bindings/c/vers.h", "The three handles", "The handles"),
+    ("doesn't say of vers_save: writes `bytes`", "bindings/c/vers.h", "writes `bytes`", "writes bytes"),
+)
+
+
+def self_test():
+    """Returns the exit status, 1 if a plant isn't found, or a command that fails doesn't count as failed."""
+    missed = [*missed_plants(("bindings/check.py", "--text"), ("crates", "bindings", "tools"), PLANTS)]
+    checks = Checks(True)
+    with contextlib.redirect_stdout(io.StringIO()):
+        for command, wanted in ((["false"], None), (["echo", "a"], "b\n"), (["echo", "a"], "a\n"), (["true"], None)):
+            checks.run("", command, wanted)
+    shutil.rmtree(checks.folder)
+    counts = checks.passed, checks.failed, bool(checks.has("valgrind", "")), checks.left_out
+    if counts != (2, 2, False, [" (quick)"]):
+        missed.append(f"counted as {counts}")
+    return report_tests(len(PLANTS) + 1, missed)
+
+
 def main(arguments):
     """Runs all checks."""
+    if arguments == ["--self-test"]:
+        return self_test()
     checks = Checks("--quick" in arguments)
     archives = [it for it in arguments if not it.startswith("--")]
     libraries = [Proved(os.path.abspath((archives or [ARCHIVE])[0]))] if "--cargo" not in arguments else []
     libraries += [Cargo(checks.path("target"))] if not archives else []
+    libraries = [] if {"--write", "--text"} & {*arguments} else libraries
     try:
         check_codes(checks, "--write" in arguments)
         check_exports(checks)
-        for library in [] if "--write" in arguments else libraries:
+        for library in libraries:
             check_all(checks, library)
     finally:
         shutil.rmtree(checks.folder)

@@ -3,6 +3,7 @@
 
     python3 tools/rust_checks.py           every check of `run_checks`
     python3 tools/rust_checks.py --quick   only the tests without further features, and the lints
+    python3 tools/rust_checks.py --self-test    runs commands that fail, which have to count as failed
 
 The tests are run in debug with overflow checks: those of the crate, the proved crates' own, and the examples of the
 documentation. The checksums of the benchmark are those of the Rattle program's stored run. It names each check that it
@@ -17,7 +18,7 @@ import tempfile
 from glob import glob
 
 from plain_rust import write_tests
-from sources import TOP, has_cargo, read, write_files
+from sources import TOP, has_cargo, read, report_tests, write_files
 
 RUST = f"{TOP}/rust"
 OLDEST = "1.63"
@@ -141,8 +142,21 @@ def run_checks(checks, is_quick):
         check_arm(checks)
 
 
+def self_test():
+    """Returns the exit status, 1 if the numbers of what passed and failed are wrong."""
+    checks, tests = Checks(""), "echo 'test result: ok. 3 passed; {} failed'; exit {}"
+    for command in (tests.format(0, 0), tests.format(2, 0), tests.format(0, 1), "exit 1", "exit 0"):
+        checks.run("", ["sh", "-c", command], cwd=TOP)
+    checks.run("", ["echo", "another"], cwd=TOP, expected="this")
+    checks.run("", ["false"], "no tool", TOP)
+    counts = checks.passed, checks.failed, checks.left_out
+    return report_tests(1, [] if counts == (10, 5, [" (no tool)"]) else [f"counted as {counts}"])
+
+
 def main(arguments):
     """Runs the checks, and prints how many passed and failed and which were left out."""
+    if arguments == ["--self-test"]:
+        return self_test()
     if not has_cargo():
         print("left out: all checks of the Rust crate (no cargo 1.88 or newer)")
         return 0
