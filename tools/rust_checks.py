@@ -25,6 +25,8 @@ OLDEST = "1.63"
 REGISTRY = "/usr/share/cargo/registry"
 EXAMPLES = ("search_engine", "genome_reads", "quantiles", "xml_tree", "dictionary_column", "ip_ranges")
 FEATURES = "unchecked,simd,mem_dbg,bp_u16_lookup"
+# By default a release has no debug assertions, with which a tree stops at a position without a node.
+RELEASED = "--config profile.dev.debug-assertions=false"
 ARM = "aarch64-unknown-linux-gnu"
 # Debian's compiler.
 RUSTC, CARGO = "/usr/bin/rustc", "/usr/bin/cargo"
@@ -133,6 +135,7 @@ def run_checks(checks, is_quick):
     checks.cargo("lints", "clippy --all-targets -- -D warnings", no_lints)
     checks.run("layout", ["cargo", "fmt", "--check"], no_lints)
     if not is_quick:
+        checks.cargo("without debug assertions", f"test --test * {RELEASED}")
         checks.cargo("pages", "doc --no-deps", RUSTDOCFLAGS="-D warnings")
         check_oldest(checks)
         check_git(checks)

@@ -487,7 +487,7 @@ class Arrays(unittest.TestCase):
         self.assertEqual((found.tolist(), found.dtype), ([[2, None], [None, None]], numpy.int64))
         self.assertEqual(bits.predecessor0(places).tolist(), [[None, 1], [1, 1]])
         self.assertEqual(bits.successor1(numpy.array([vers.NONE], "u8")).tolist(), [None])
-        self.assertEqual(numpy.asarray(vers.EliasFanoVec([5, 123]), str).tolist(), ["5", "123"])
+        self.assertEqual(vers.EliasFanoVec([5, 123]).__array__(str).tolist(), ["5", "123"])
         self.assertEqual(tree.parent(numpy.array([0, 3])).tolist(), [None, 0])
         self.assertEqual(tree.each("parent", numpy.array([0, 3]), other=-1).tolist(), [-1, 0])
         self.assertEqual(numbers.get(numpy.array([0, 1, 2])).tolist(), [3, vers.NONE, None])

@@ -93,6 +93,8 @@ fn debug_shows_items_and_shortens_many() {
     );
     let whole = format!("[{}]", shown.trim_end_matches(", "));
     assert!(format!("{:?}", EliasFanoVec::from_slice(&many[..32])).contains(&whole));
+    let text = format!("{:?}", TextIndex::from_slice(&[1; 40], 1).unwrap());
+    assert!(text.ends_with(&format!("[{}..] }}", "1, ".repeat(32))), "{text}");
     let (bits, mask) = (BitVec::from_ones(3), BitVec::from_bits(&[0, 1, 0]));
     assert_eq!(format!("{:?}", bits.mask_and(&mask).unwrap()), "MaskedBitVec { len: 3, bits: [0, 1, 0] }");
     assert_eq!(format!("{:?}", bits.iter()), "BitVecRefIter { left: 3 }");

@@ -226,6 +226,41 @@ fn ones_of_uneven_parentheses_answer_as_their_pages_say() {
     assert_eq!(tree.level_rightmost(1), tree.bwd_search(3, 1).and_then(|position| tree.open(position)));
 }
 
+/// A position without a node is answered as the pages say, where debug assertions don't stop the call.
+#[test]
+#[cfg(not(debug_assertions))]
+fn positions_without_a_node_are_answered() {
+    for items in [&[1, 1, 0, 0, 1, 0][..], &[1, 0, 0, 1, 1, 0, 1], &[0, 1, 0], &[]] {
+        let bits = BitVec::from_bits(items);
+        let (tree, len) = (BpTree::<512>::from_bit_vector(bits.clone()), bits.len());
+        let is_one = |&it: &usize| bits.get(it) == Some(1);
+        let ones = |range: std::ops::Range<usize>| range.filter(is_one).count();
+        for position in (0..len + 2).chain([usize::MAX]).filter(|&it| !tree.has_node(it)) {
+            let (close, end) = (tree.close(position), position.saturating_add(1));
+            let excess = 2 * ones(0..end.min(len)) as i64 - end.min(len) as i64;
+            let child = Some(end).filter(is_one);
+            assert_eq!((tree.excess(position), tree.depth(position)), (excess, (excess - 1).max(0) as u64));
+            assert_eq!(
+                (tree.node_index(position), tree.parent(position)),
+                (ones(0..position.min(len)), tree.enclose(position))
+            );
+            assert_eq!((tree.is_leaf(position), tree.first_child(position)), (bits.get(end) == Some(0), child));
+            assert_eq!(tree.last_child(position), child.and(close).and_then(|it| tree.open(it - 1)));
+            assert_eq!(tree.next_sibling(position), close.map(|it| it + 1).filter(is_one));
+            let before = position.checked_sub(1).filter(|&it| bits.get(it) == Some(0));
+            assert_eq!(tree.previous_sibling(position), before.and_then(|it| tree.open(it)));
+            assert_eq!(tree.subtree_size(position), close.map(|it| ones(position..it)));
+            assert_eq!(tree.level_next(position), close.and_then(|it| tree.fwd_search(it, 1)));
+            assert_eq!(tree.level_prev(position), tree.bwd_search(position, 1).and_then(|it| tree.open(it)));
+            let ancestors = [0, 2].map(|levels| tree.level_ancestor(position, levels));
+            assert_eq!(ancestors, [Some(position), tree.bwd_search(position, -2)]);
+            for other in 0..len + 2 {
+                assert_eq!(tree.is_ancestor(position, other), close.map(|it| (position..it).contains(&other)));
+            }
+        }
+    }
+}
+
 /// A forest of roots that are leaves, with only the calls that a `Tree` requires.
 struct Leaves(usize);
 
