@@ -257,11 +257,10 @@ def report_tests(count, faults):
 
 def missed_plants(script, parts, plants):
     """Plants faults, each in a copy of parts of the repository, and yields those that a script doesn't report there. A
-    fault is what has to be printed, a path, and what is written there for what."""
+    fault is what has to be printed with it and not without it, a path, and what is written there for what."""
     unused = shutil.ignore_patterns("out", "proofs", "wrong", "target", "__pycache__")
 
-    def output(plant):
-        _, path, old, new = plant
+    def output(planted):
         with tempfile.TemporaryDirectory(prefix="planted-") as top:
             for it in parts:
                 os.makedirs(os.path.dirname(f"{top}/{it}"), exist_ok=True)
@@ -269,14 +268,16 @@ def missed_plants(script, parts, plants):
                     shutil.copytree(f"{TOP}/{it}", f"{top}/{it}", ignore=unused)
                 else:
                     shutil.copy(f"{TOP}/{it}", f"{top}/{it}")
-            write_files(top, {path: read(path).replace(old, new)})
+            write_files(top, planted)
             done = subprocess.run([sys.executable, f"{top}/{script[0]}", *script[1:]], capture_output=True, text=True)
             return done.stdout + done.stderr if done.returncode == 1 else ""
 
     with ThreadPoolExecutor(os.cpu_count()) as pool:
-        for (expected, path, old, _), printed in zip(plants, pool.map(output, plants)):
-            if expected not in printed or old not in read(path):
-                yield f"not found in {path}: {expected}"
+        planted = ({path: read(path).replace(old, new)} for _, path, old, new in plants)
+        without, *outputs = pool.map(output, [{}, *planted])
+    for (expected, path, old, _), printed in zip(plants, outputs):
+        if expected not in printed or expected in without or old not in read(path):
+            yield f"not found in {path}: {expected}"
 
 
 def write_files(top, files):

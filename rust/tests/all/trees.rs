@@ -203,6 +203,13 @@ fn a_walk_builds_a_tree() {
 }
 
 #[test]
+fn a_block_has_up_to_2_to_the_32_bits() {
+    let bits = BitVec::from_bits(&[1, 1, 0, 0]);
+    assert_eq!(BpTree::<{ 1 << 32 }>::from_bit_vector(bits.clone()).parent(1), Some(0));
+    assert_eq!(BpTree::<1>::from_bit_vector(bits).parent(1), Some(0));
+}
+
+#[test]
 #[cfg(debug_assertions)]
 #[should_panic(expected = "no node opens at 1")]
 fn positions_where_no_node_opens_stop() {
