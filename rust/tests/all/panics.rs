@@ -227,6 +227,8 @@ fn counted_calls_of_no_node_stop() {
         assert_eq!((tree.children(node).next(), tree.rev_children(node).next()), (None, None));
         assert_eq!((tree.subtree_iter(node).next(), tree.subtree_post_iter(node).next()), (None, None));
     }
+    #[cfg(debug_assertions)]
+    stops! { "no position 4": tree.excess(4); }
     stops! {
         "no such node": open.level_leftmost_counted(0, tally);
         "no such node": open.level_rightmost_counted(0, tally);
