@@ -124,6 +124,7 @@ fn minima_stop() {
     let mut tally = Tally::new();
     stops! {
         "no range from 1 to 3": binary.range_min(1, 3);
+        "no range from 3 to 3": fast.range_min(3, 3);
         "from 2 to 1 is empty": fast.range_min(2, 1);
         "no range": binary.range_min_counted(0, FAR, &mut tally);
         "no range": fast.range_min_counted(0, 3, &mut tally);
