@@ -6,8 +6,9 @@
     python3 tools/rust_checks.py --self-test    runs commands that fail, which have to count as failed
 
 The tests are run in debug with overflow checks: those of the crate, the proved crates' own, and the examples of the
-documentation. The checksums of the benchmark are those of the Rattle program's stored run. It names each check that it
-leaves out because a tool is missing. The last line is "N passed, M failed".
+documentation; the crate's also without debug assertions. The checksums of the benchmark are those of the Rattle
+program's stored run. It names each check that it leaves out because a tool is missing. The last line is "N passed, M
+failed".
 """
 import os
 import re
