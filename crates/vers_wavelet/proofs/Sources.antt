@@ -1,5 +1,5 @@
 -- What the sources of symbols state about their items.
-use Rattle.vers_wavelet.proofs.Names.{◌≡◌, ℕ, ◌+◌, ◌-◌, ◌*◌, ◌/◌, ◌%◌, ◌^◌, ◌<◌, ◌≤◌, Bool, false, List, length, get_or, take, drop, slice_get, Some, sym, ap, ◌∙◌, arith, bit_and, range_with_len, map, map-append, [], ◌∷◌, ◌++◌, packed_symbols, pow-le-pow_right, mod-eq_of_lt, div-mul-le_self, div-le_self, length-take, get_or-take, get_or-drop, drop-drop, drop-take, length-range_with_len, get_or-range_with_len, one_shl, and_mask, row_fits, pow_pos, slice_get-get_or, number, part, number-drop, number_below, digit, prefix}
+use Rattle.vers_wavelet.proofs.Names.{◌≡◌, ℕ, ◌+◌, ◌-◌, ◌*◌, ◌/◌, ◌%◌, ◌^◌, ◌<◌, ◌≤◌, Bool, false, List, length, get_or, take, take_all, take_more, low_symbols, nat_tests, mod-lt, drop, slice_get, Some, sym, ap, ◌∙◌, arith, bit_and, range_with_len, map, map-append, [], ◌∷◌, ◌++◌, packed_symbols, pow-le-pow_right, mod-eq_of_lt, div-mul-le_self, div-le_self, length-take, get_or-take, get_or-drop, drop-drop, drop-take, length-range_with_len, get_or-range_with_len, one_shl, and_mask, row_fits, pow_pos, slice_get-get_or, number, part, number-drop, number_below, digit, prefix}
 use Rattle.std.proofs.lemmas.List.FromFn.{map-range_with_len_more}
 use Rattle.vers_wavelet.proofs.Digits.{list_digit}
 
@@ -50,8 +50,30 @@ fits_in bits k e most few =
     let small : number (part bits (e * k) k) < 2 ^ k = number_below (part bits (e * k) k) k (omega (arith, length-take k (drop (e * k) bits))) in
     omega (arith, small, pow-le-pow_right {n = 2} (omega arith) {i = k} {j = most} few)
 
+-- the k low digits of the first n numbers
+abbrev pub first_low : List ℕ → ℕ → ℕ → List ℕ
+first_low numbers k n = map (λ y. y % 2 ^ k) (take n numbers)
+
+pub more_low : (numbers : List ℕ) (k n d : ℕ) → n < length numbers → first_low numbers k (n + 1) ≡ first_low numbers k n ++ get_or numbers n d % 2 ^ k ∷ []
+more_low numbers k n d h = ap (map (λ y. y % 2 ^ k)) (take_more numbers n d h) ∙ map-append (λ y. y % 2 ^ k) (take n numbers) (get_or numbers n d ∷ [])
+
+pub all_low : (numbers : List ℕ) (k n : ℕ) → 1 ≤ k → n ≡ length numbers → first_low numbers k n ≡ low_symbols numbers k
+unfolding low_symbols
+all_low numbers k n some is = grind (arith, nat_tests, some, take_all n numbers (omega (arith, is)))
+
+-- they are masked
+pub low_masked : (v k : ℕ) → k < 64 → bit_and v (1 * 2 ^ k % 2 ^ 64 - 1) ≡ v % 2 ^ k
+low_masked v k few = ap (λ m. bit_and v (m - 1)) (one_shl k 64 few) ∙ and_mask v k
+
+-- and fit in a type that has as many bits
+pub low_fits : (v k most : ℕ) → k < 64 → k ≤ most → bit_and v (1 * 2 ^ k % 2 ^ 64 - 1) < 2 ^ most
+low_fits v k most few narrow =
+    omega (arith, low_masked v k few, mod-lt v (pow_pos k), pow-le-pow_right {n = 2} (omega arith) {i = k} {j = most} narrow)
+
 pub ruleset words = (word_prefix, one_fits)
 
 pub ruleset packed = (packed_digit, packed_prefix, packed_inside, div-le_self, length-range_with_len, position_item)
+
+pub ruleset lowering = (more_low, all_low, low_masked, low_fits, one_fits, map-append)
 
 pub ruleset unpacking = (more_numbers, all_numbers, packed_inside, fits_in, map-append)

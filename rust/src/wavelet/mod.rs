@@ -98,8 +98,7 @@ impl WaveletMatrix {
     }
 
     /// Indexes the low `bits_per_element` bits of each number, as [`from_slice`](Self::from_slice) does, of numbers of
-    /// 8, 16, 32 or 64 bits. The buffers of the sort have numbers of the same type, so bytes take an eighth of the
-    /// memory.
+    /// 8, 16, 32 or 64 bits. The buffers of the sort have numbers of the same type.
     ///
     /// ```
     /// use vers_vecs::WaveletMatrix;

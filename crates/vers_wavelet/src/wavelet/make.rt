@@ -8,6 +8,7 @@ use crate::wavelet::integer::Integer;
 use crate::wavelet::make::count::counted_levels;
 use crate::wavelet::make::sort::{all_items, sorted_levels};
 use crate::wavelet::make::source::{Packed, Source, Words};
+use crate::wavelet::make::unpack::low_integers;
 pub use crate::wavelet::make::unpack::unpacked;
 use std::alloc::{AllocError, Allocator};
 use vers_bits::bit_vec::{BitVec, MAX_LEN};
@@ -20,14 +21,20 @@ mod unpack;
 #[tactic(auto, using(crate::proofs::Makes::makes))]
 impl<A: Allocator + Copy> WaveletMatrix<A> {
     /// Returns the matrix of the low `bits_per_element` bits of each number, by stable sorting; it is empty if
-    /// that is 0. Allocates two buffers of as many numbers, in addition to the levels. Precondition:
-    /// `bits_per_element` is at most 64. Errors: `AllocError` if the allocator refuses a request.
+    /// that is 0. Allocates two buffers of as many numbers, in addition to the levels: each has the least of 8, 16, 32
+    /// and 64 bits that a symbol needs. Precondition: `bits_per_element` is at most 64. Errors: `AllocError` if the
+    /// allocator refuses a request.
     pub fn from_slice(alloc: A, numbers: &[u64], bits_per_element: u16) -> Result<Self, AllocError>
         requires { bits_per_element ≤ 64 }
         ensures width { IfOk result (λ w. w.width ≡ bits_per_element) }
         ensures items { IfOk result (λ w. w.items ≡ low_symbols numbers.now bits_per_element) }
     {
-        WaveletMatrix::from_integers(alloc, numbers, bits_per_element)
+        match bits_per_element {
+            1..=8 => WaveletMatrix::of_low::<u8>(alloc, numbers, bits_per_element),
+            9..=16 => WaveletMatrix::of_low::<u16>(alloc, numbers, bits_per_element),
+            17..=32 => WaveletMatrix::of_low::<u32>(alloc, numbers, bits_per_element),
+            _ => WaveletMatrix::from_integers(alloc, numbers, bits_per_element),
+        }
     }
 
     /// Returns the matrix that `from_slice` does, from numbers of 8, 16, 32 or 64 bits each; the buffers have numbers
@@ -147,6 +154,24 @@ impl<A: Allocator + Copy> WaveletMatrix<A> {
         let numbers = unpacked::<N, A>(bits, width)?;
         let source = Words::new(&[], width);
         WaveletMatrix::of_items(bits.allocator(), &source, numbers, bits.len() / width)
+    }
+
+    // Returns the matrix of the low `bits_per_element` bits of each number, which are sorted as numbers of a type.
+    fn of_low<N: Integer>(
+        alloc: A,
+        numbers: &[u64],
+        bits_per_element: u16,
+    ) -> Result<Self, AllocError>
+        requires some { 1 ≤ bits_per_element }
+        requires narrow { bits_per_element ≤ N.bits }
+        requires few { bits_per_element < 64 }
+        ensures width { IfOk result (λ w. w.width ≡ bits_per_element) }
+        ensures items { IfOk result (λ w. w.items ≡ low_symbols numbers.now bits_per_element) }
+    {
+        let width = bits_per_element as usize;
+        let low = low_integers::<N, A>(alloc, numbers, width)?;
+        let source = Words::new(&[], width);
+        WaveletMatrix::of_items(alloc, &source, low, numbers.len())
     }
 
     // Returns the matrix of the numbers of a source, by counting prefixes.

@@ -115,6 +115,30 @@ fn numbers_of_no_bits_and_of_64_bits(rt: HostRuntime) {
     assert!(rt; wrong.is_none());
 }
 
+// Numbers of as many bits as integers have, and of one more.
+const AROUND_INTEGERS: [Row; 6] = [
+    (&[511, 256, 7], 8, &[255, 0, 7]),
+    (&[511, 256, 1_023], 9, &[511, 256, 511]),
+    (&[131_071, 65_536, 7], 16, &[65_535, 0, 7]),
+    (&[131_071, 65_536, 262_143], 17, &[131_071, 65_536, 131_071]),
+    (
+        &[8_589_934_591, 4_294_967_296, 7],
+        32,
+        &[4_294_967_295, 0, 7],
+    ),
+    (
+        &[8_589_934_591, 4_294_967_296, 7],
+        33,
+        &[8_589_934_591, 4_294_967_296, 7],
+    ),
+];
+
+#[test]
+fn numbers_of_widths_around_those_of_integers(rt: HostRuntime) {
+    let wrong = first_wrong_numbers(rt.alloc(), Method::Sorting, &AROUND_INTEGERS);
+    assert!(rt; wrong.is_none());
+}
+
 // Returns the number of symbols that a constructor makes of numbers.
 fn len_of(alloc: Global, method: Method, numbers: &[u64], width: u16) -> Result<usize, AllocError> {
     asked(of_numbers(alloc, method, numbers, width), |it| it.len())

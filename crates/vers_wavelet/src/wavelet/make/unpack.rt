@@ -1,6 +1,6 @@
-//! The symbols of a list of bits, as numbers.
-ghost use Rattle.std.specs.Prelude.{◌≡◌, ◌≤◌, map, IfOk};
-ghost use Rattle.vers_wavelet.specs.Makers.{packed_symbols};
+//! The symbols of a list of bits, and the low bits of numbers, as integers of the least type.
+ghost use Rattle.std.specs.Prelude.{◌≡◌, ◌<◌, ◌≤◌, map, IfOk};
+ghost use Rattle.vers_wavelet.specs.Makers.{low_symbols, packed_symbols};
 
 use crate::wavelet::integer::Integer;
 use std::alloc::{AllocError, Allocator};
@@ -24,4 +24,24 @@ pub fn unpacked<N: Integer, A: Allocator + Copy>(
         numbers.push(N::of(bits.unpack_element_unchecked(e, width)))?;
     }
     Ok(numbers)
+}
+
+// Returns the `width` low bits of each number, as integers.
+#[tactic(auto, using(crate::proofs::Sources::lowering))]
+pub(super) fn low_integers<N: Integer, A: Allocator + Copy>(
+    alloc: A,
+    numbers: &[u64],
+    width: usize,
+) -> Result<Vec<N, A>, AllocError>
+    requires some { 1 ≤ width }
+    requires narrow { width ≤ N.bits }
+    requires few { width < 64 }
+    ensures { IfOk result (λ v. map N.value v.items ≡ low_symbols numbers.now width) }
+{
+    let mask = (1 << width) - 1;
+    let mut low = Vec::with_capacity(alloc, numbers.len())?;
+    for i in 0..numbers.len() {
+        low.push(N::of(numbers[i] & mask))?;
+    }
+    Ok(low)
 }

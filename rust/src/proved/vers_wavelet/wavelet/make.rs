@@ -7,6 +7,7 @@ use crate::proved::vers_wavelet::wavelet::integer::Integer;
 use crate::proved::vers_wavelet::wavelet::make::count::counted_levels;
 use crate::proved::vers_wavelet::wavelet::make::sort::{all_items, sorted_levels};
 use crate::proved::vers_wavelet::wavelet::make::source::{Packed, Source, Words};
+use crate::proved::vers_wavelet::wavelet::make::unpack::low_integers;
 pub use crate::proved::vers_wavelet::wavelet::make::unpack::unpacked;
 use crate::rattle::AllocError;
 use crate::rattle::Allocator;
@@ -19,10 +20,16 @@ mod unpack;
 
 impl<A: Allocator + Copy> WaveletMatrix<A> {
     /// Returns the matrix of the low `bits_per_element` bits of each number, by stable sorting; it is empty if
-    /// that is 0. Allocates two buffers of as many numbers, in addition to the levels. Precondition:
-    /// `bits_per_element` is at most 64. Errors: `AllocError` if the allocator refuses a request.
+    /// that is 0. Allocates two buffers of as many numbers, in addition to the levels: each has the least of 8, 16, 32
+    /// and 64 bits that a symbol needs. Precondition: `bits_per_element` is at most 64. Errors: `AllocError` if the
+    /// allocator refuses a request.
     pub fn from_slice(alloc: A, numbers: &[u64], bits_per_element: u16) -> Result<Self, AllocError> {
-        WaveletMatrix::from_integers(alloc, numbers, bits_per_element)
+        match bits_per_element {
+            1..=8 => WaveletMatrix::of_low::<u8>(alloc, numbers, bits_per_element),
+            9..=16 => WaveletMatrix::of_low::<u16>(alloc, numbers, bits_per_element),
+            17..=32 => WaveletMatrix::of_low::<u32>(alloc, numbers, bits_per_element),
+            _ => WaveletMatrix::from_integers(alloc, numbers, bits_per_element),
+        }
     }
 
     /// Returns the matrix that `from_slice` does, from numbers of 8, 16, 32 or 64 bits each; the buffers have numbers
@@ -99,6 +106,18 @@ impl<A: Allocator + Copy> WaveletMatrix<A> {
         let numbers = unpacked::<N, A>(bits, width)?;
         let source = Words::new(&[], width);
         WaveletMatrix::of_items(bits.allocator(), &source, numbers, bits.len() / width)
+    }
+
+    // Returns the matrix of the low `bits_per_element` bits of each number, which are sorted as numbers of a type.
+    fn of_low<N: Integer>(
+        alloc: A,
+        numbers: &[u64],
+        bits_per_element: u16,
+    ) -> Result<Self, AllocError> {
+        let width = bits_per_element as usize;
+        let low = low_integers::<N, A>(alloc, numbers, width)?;
+        let source = Words::new(&[], width);
+        WaveletMatrix::of_items(alloc, &source, low, numbers.len())
     }
 
     // Returns the matrix of the numbers of a source, by counting prefixes.

@@ -1,4 +1,4 @@
-//! The symbols of a list of bits, as numbers.
+//! The symbols of a list of bits, and the low bits of numbers, as integers of the least type.
 
 use crate::rattle::prelude::*;
 
@@ -19,4 +19,18 @@ pub fn unpacked<N: Integer, A: Allocator + Copy>(
         numbers.push(N::of(bits.unpack_element_unchecked(e, width)))?;
     }
     Ok(numbers)
+}
+
+// Returns the `width` low bits of each number, as integers.
+pub(super) fn low_integers<N: Integer, A: Allocator + Copy>(
+    alloc: A,
+    numbers: &[u64],
+    width: usize,
+) -> Result<Vec<N, A>, AllocError> {
+    let mask = (1 << width) - 1;
+    let mut low = Vec::with_capacity(alloc, numbers.len())?;
+    for i in 0..numbers.len() {
+        low.push(N::of(numbers[i] & mask))?;
+    }
+    Ok(low)
 }
