@@ -48,6 +48,10 @@ BY_HAND = {
     "vers_c/loose.rs": "pub use crate::rattle::owners::Loose;\n",
 }
 
+# Functions that some processors have as an instruction. A call goes through a function of the support module, which takes
+# the proved one too.
+INSTRUCTIONS = {"vers_rank/word.rs": ("position_of_one", )}
+
 # Tests that take minutes without optimization: cargo leaves them out by default. The gate runs them in Rattle.
 SLOW = {
     "vers_rank_tests/tests/compared.rs": ("around_a_superblock", "past_two_superblocks"),
@@ -463,6 +467,10 @@ class Writer:
         text = re.sub(r"(?m)^fn main\(", "pub fn main(", text)
         if self.crate in EXPORTS:
             text = re.sub(r"(?m)^mod ", "pub mod ", text)
+        for name in INSTRUCTIONS.get(self.name, ()):
+            text, count = re.subn(rf"(?<!fn )\b{name}\(", f"{HERE}instructions::{name}({name}, ", text)
+            if count != 1:
+                raise Refused(f"{self.name}: {count} calls of {name}")
         for test in SLOW.get(self.name, ()):
             text, count = re.subn(rf"(?m)^#\[test\]\n(?=fn {test}\()",
                                   "#[test]\n#[ignore = \"slow without optimization\"]\n", text)

@@ -29,6 +29,8 @@ FEATURES = "unchecked,simd,mem_dbg,bp_u16_lookup"
 # By default a release has no debug assertions, with which a tree stops at a position without a node.
 RELEASED = "--config profile.dev.debug-assertions=false"
 ARM = "aarch64-unknown-linux-gnu"
+# Processors with the instruction that the support module calls.
+NEWER = "x86-64-v3"
 # Debian's compiler.
 RUSTC, CARGO = "/usr/bin/rustc", "/usr/bin/cargo"
 # An empty crate instead of serde, for what cargo asks the registry.
@@ -60,7 +62,7 @@ class Checks:
     def cargo(self, what, words, missing="", **env):
         """Runs cargo in the crate's folder, without a network, with the tests of the proved sources."""
         command, *rest = words.split()
-        env["RUSTFLAGS"] = "--cfg proved_tests"
+        env["RUSTFLAGS"] = f"{env.get('RUSTFLAGS', '')} --cfg proved_tests"
         self.run(what, ["cargo", command, "--quiet", "--offline", *rest], missing, **env)
 
 
@@ -107,6 +109,12 @@ def check_serde(checks):
                CARGO_TARGET_DIR=f"{checks.folder}/forms_target")
 
 
+def no_newer():
+    """Returns why programs for newer processors can't run here, or nothing."""
+    flags = read("/proc/cpuinfo").split() if os.path.exists("/proc/cpuinfo") else []
+    return "" if {"avx2", "bmi2"} <= set(flags) else f"this processor isn't {NEWER}"
+
+
 def check_arm(checks):
     """Builds the benchmark's driver over the crate for aarch64, and compares its checksums under qemu. (Threads hang in
     some emulators, so the tests, which start some, are not run there.)"""
@@ -132,6 +140,9 @@ def run_checks(checks, is_quick):
     for name in EXAMPLES:
         checks.cargo(f"example {name}", f"run --example {name}")
     checks.cargo(f"tests with {FEATURES}", f"test --features {FEATURES} --test *", "quick" if is_quick else "")
+    # (debug builds compare the instruction with the proved function)
+    checks.cargo(f"tests for {NEWER}", f"test --test * --target-dir target/{NEWER}", "quick" if is_quick else no_newer(),
+                 RUSTFLAGS=f"-C target-cpu={NEWER}")
     no_lints = "" if shutil.which("cargo-clippy") and shutil.which("cargo-fmt") else "no clippy or rustfmt"
     checks.cargo("lints", "clippy --all-targets -- -D warnings", no_lints)
     checks.run("layout", ["cargo", "fmt", "--check"], no_lints)

@@ -1,5 +1,5 @@
 #![doc = include_str!("../README.md")]
-#![cfg_attr(not(feature = "unchecked"), forbid(unsafe_code))]
+#![cfg_attr(not(any(feature = "unchecked", target_feature = "bmi2")), forbid(unsafe_code))]
 #![warn(missing_docs, missing_debug_implementations)]
 
 #[cfg(not(target_pointer_width = "64"))]

@@ -1,6 +1,6 @@
 //! The program `vers` for those who have cargo and not Rattle's toolchain: `crates/vers_commands` and the crates below it,
 //! as `tools/plain_rust.py` writes the proved sources.
-#![forbid(unsafe_code)]
+#![cfg_attr(not(target_feature = "bmi2"), forbid(unsafe_code))]
 
 #[cfg(not(target_pointer_width = "64"))]
 compile_error!("the proofs are of positions of 64 bits");

@@ -1,13 +1,15 @@
 //! What Rattle's standard library has and Rust's lacks, as far as the proved sources use it.
 //!
-//! All of it is safe Rust. The proofs are over the contracts that Rattle's library gives these names, so each body here is to do what the
-//! contract of that name says.
+//! All of it is safe Rust, except one line of `instructions`, on processors with BMI2, and two of the feature `unchecked`.
+//! The proofs are over the contracts that Rattle's library gives these names, so each body here is to do what the contract
+//! of that name says.
 
 pub mod boxed;
 #[cfg(any(mutants, programs))]
 pub mod fs;
 #[cfg(any(test, programs))]
 pub mod host;
+pub mod instructions;
 pub mod io;
 pub mod lanes;
 #[cfg(mutants)]

@@ -35,7 +35,7 @@ pub fn held_in_word(word: u64, bit: bool) -> usize {
 /// in a fixed number of steps.
 #[inline(always)]
 pub fn position_in_word(word: u64, bit: bool, r: usize) -> usize {
-    position_of_one(marks(bit, word), r)
+    crate::rattle::instructions::position_of_one(position_of_one, marks(bit, word), r)
 }
 
 /// Returns the word in which the positions that have the bit are ones.
