@@ -1,6 +1,7 @@
 //! Times of queries and builds by size, of this crate and of vers-vecs: `growth [PASSES]`. Both answer the same questions
 //! in turns of one process, so that other work on the machine slows both alike. Prints the tables of
-//! docs/PERFORMANCE.md: in each cell the least processor time of all passes, in nanoseconds, here and in vers-vecs.
+//! docs/PERFORMANCE.md: in each cell the least processor time of all passes, in nanoseconds, here and in vers-vecs, and
+//! their ratio.
 
 #[path = "../../original/src/clock.rs"]
 mod clock;
@@ -16,8 +17,10 @@ use workload::{folded, limbs, members_uniform, parentheses, symbols, values, Ran
 
 /// The number of questions of a query.
 const QUESTIONS: usize = 200_000;
-/// The number of passes of a build.
-const BUILDS: usize = 3;
+/// The number of passes of a build and of a walk.
+const FEW: usize = 3;
+/// The greatest number of items of a walk.
+const WALKED: usize = 1_000_000;
 
 /// The rows of a structure's table: a name, and a cell for each size.
 struct Table {
@@ -34,7 +37,7 @@ impl Table {
         }
         println!("|{title}|{}|\n|---|{}", sizes.join("|"), "---:|".repeat(sizes.len()));
         for (name, cells) in &table.rows {
-            println!("|`{name}`|{}|", cells.join("|"));
+            println!("|{name}|{}|", cells.join("|"));
         }
         println!();
     }
@@ -59,7 +62,8 @@ impl Table {
             least = [least[0].min(middle - start), least[1].min(end - middle)];
         }
         let [here, there] = least.map(|it| short(it.as_secs_f64() * 1e9 / count as f64));
-        let cell = format!("{here}, {there}");
+        let ratio = least[0].as_secs_f64() / least[1].as_secs_f64();
+        let cell = format!("{here}, {there} ({ratio:.2})");
         match self.rows.iter_mut().find(|row| row.0 == name) {
             Some((_, cells)) => cells.push(cell),
             None => self.rows.push((name, vec![cell])),
@@ -67,8 +71,18 @@ impl Table {
     }
 
     /// Adds the cell of a build, whose result is dropped within the time.
-    fn build<T, U>(&mut self, count: usize, ours: impl Fn() -> T, theirs: impl Fn() -> U) {
-        self.add("build", BUILDS, count, || drop_counted(ours()), || drop_counted(theirs()));
+    fn build<T, U>(&mut self, name: &'static str, count: usize, ours: impl Fn() -> T, theirs: impl Fn() -> U) {
+        self.add(name, FEW, count, || drop_counted(ours()), || drop_counted(theirs()));
+    }
+
+    /// Adds the cell of a walk over the first items.
+    fn walk<I, J>(&mut self, name: &'static str, count: usize, ours: impl Fn() -> I, theirs: impl Fn() -> J)
+    where
+        I: Iterator<Item = u64>,
+        J: Iterator<Item = u64>,
+    {
+        let count = count.min(WALKED);
+        self.add(name, FEW, count, || folded(ours().take(count)), || folded(theirs().take(count)));
     }
 
     /// Adds the cell of a query of each question.
@@ -104,6 +118,7 @@ fn measure_bits(table: &mut Table, len: usize) {
     let limbs = limbs(len / 64, 50);
     let (our_bits, their_bits) = (vers_vecs::BitVec::from_limbs(&limbs), original::BitVec::from_limbs(&limbs));
     table.build(
+        "`from_bit_vec`, a bit",
         len,
         || vers_vecs::RsVec::from_bit_vec(our_bits.clone()),
         || original::RsVec::from_bit_vec(their_bits.clone()),
@@ -113,15 +128,18 @@ fn measure_bits(table: &mut Table, len: usize) {
     let mut random = Random::new(7);
     let positions = numbers(&mut random, len);
     let [ones, zeros] = [ours.rank1(len), ours.rank0(len)].map(|count| numbers(&mut random, count));
-    table.query("rank1", &positions, |&it| ours.rank1(it) as u64, |&it| theirs.rank1(it) as u64);
-    table.query("select1", &ones, |&it| ours.select1(it) as u64, |&it| theirs.select1(it) as u64);
-    table.query("select0", &zeros, |&it| ours.select0(it) as u64, |&it| theirs.select0(it) as u64);
+    table.query("`rank1`", &positions, |&it| ours.rank1(it) as u64, |&it| theirs.rank1(it) as u64);
+    table.query("`select1`", &ones, |&it| ours.select1(it) as u64, |&it| theirs.select1(it) as u64);
+    table.query("`select0`", &zeros, |&it| ours.select0(it) as u64, |&it| theirs.select0(it) as u64);
+    let count = ours.rank1(len);
+    table.walk("`iter1`, a position", count, || ours.iter1().map(|it| it as u64), || theirs.iter1().map(|it| it as u64));
 }
 
 /// Ascending numbers with gaps below 2^20.
 fn measure_sorted(table: &mut Table, len: usize) {
     let members = members_uniform(len);
     table.build(
+        "`from_slice`, an element",
         len,
         || vers_vecs::EliasFanoVec::from_slice(&members),
         || original::EliasFanoVec::from_slice(&members),
@@ -131,14 +149,15 @@ fn measure_sorted(table: &mut Table, len: usize) {
     let mut random = Random::new(8);
     let positions = numbers(&mut random, len);
     let asked = random.many_below(QUESTIONS, members[len - 1] + 1);
-    table.query("get", &positions, |&it| ours.get(it).unwrap_or(NONE), |&it| theirs.get(it).unwrap_or(NONE));
-    table.query("rank", &asked, |&it| ours.rank(it), |&it| theirs.rank(it));
+    table.query("`get`", &positions, |&it| ours.get(it).unwrap_or(NONE), |&it| theirs.get(it).unwrap_or(NONE));
+    table.query("`rank`", &asked, |&it| ours.rank(it), |&it| theirs.rank(it));
     table.query(
-        "predecessor",
+        "`predecessor`",
         &asked,
         |&it| ours.predecessor(it).unwrap_or(NONE),
         |&it| theirs.predecessor(it).unwrap_or(NONE),
     );
+    table.walk("`iter`, an element", len, || ours.iter(), || theirs.iter());
 }
 
 /// Returns a range from each position to a random one, or the reverse, and the number of one of its elements.
@@ -155,6 +174,7 @@ fn ranges_from(random: &mut Random, asked: &[(usize, u64)], len: usize) -> Vec<[
 fn measure_symbols(table: &mut Table, len: usize) {
     let items = symbols(len, 8);
     table.build(
+        "`from_slice`, a symbol",
         len,
         || vers_vecs::WaveletMatrix::from_slice(&items, 8),
         || original::WaveletMatrix::from_slice(&items, 8),
@@ -167,21 +187,21 @@ fn measure_symbols(table: &mut Table, len: usize) {
     let selected: Vec<(usize, u64)> = asked.iter().map(|&(it, symbol)| (it % least.max(1), symbol)).collect();
     let ranges = ranges_from(&mut random, &asked, len);
     let number = |found: Option<u64>| found.unwrap_or(NONE);
-    table.query("get_u64", &asked, |&(it, _)| number(ours.get_u64(it)), |&(it, _)| number(theirs.get_u64(it)));
+    table.query("`get_u64`", &asked, |&(it, _)| number(ours.get_u64(it)), |&(it, _)| number(theirs.get_u64(it)));
     table.query(
-        "rank_u64",
+        "`rank_u64`",
         &asked,
         |&(it, symbol)| answer(ours.rank_u64(it, symbol)),
         |&(it, symbol)| answer(theirs.rank_u64(it, symbol)),
     );
     table.query(
-        "select_u64",
+        "`select_u64`",
         &selected,
         |&(rank, symbol)| answer(ours.select_u64(rank, symbol)),
         |&(rank, symbol)| answer(theirs.select_u64(rank, symbol)),
     );
     table.query(
-        "quantile_u64",
+        "`quantile_u64`",
         &ranges,
         |&[start, end, rank]| number(ours.quantile_u64(start..end, rank)),
         |&[start, end, rank]| number(theirs.quantile_u64(start..end, rank)),
@@ -192,6 +212,7 @@ fn measure_symbols(table: &mut Table, len: usize) {
 fn measure_minima(table: &mut Table, len: usize) {
     let items = values(len);
     table.build(
+        "`from_vec`, an item",
         len,
         || vers_vecs::FastRmq::from_vec(items.clone()),
         || original::FastRmq::from_vec(items.clone()),
@@ -202,7 +223,7 @@ fn measure_minima(table: &mut Table, len: usize) {
     let starts = numbers(&mut random, len);
     let wide: Vec<[usize; 2]> = starts.iter().map(|&it| [it, random.below(len as u64) as usize]).collect();
     let short: Vec<[usize; 2]> = starts.iter().map(|&it| [it, (it + random.below(64) as usize).min(len - 1)]).collect();
-    for (name, asked) in [("range_min", wide), ("range_min_short", short)] {
+    for (name, asked) in [("`range_min`", wide), ("`range_min`, at most 64 items", short)] {
         table.query(
             name,
             &asked,
@@ -220,6 +241,7 @@ fn measure_trees(table: &mut Table, nodes: usize) {
     let mut their_bits = original::BitVec::from_limbs(&limbs);
     their_bits.drop_last(their_bits.len() - 2 * nodes);
     table.build(
+        "`from_bit_vector`, a bit",
         2 * nodes,
         || <vers_vecs::BpTree>::from_bit_vector(our_bits.clone()),
         || <original::BpTree>::from_bit_vector(their_bits.clone()),
@@ -229,13 +251,19 @@ fn measure_trees(table: &mut Table, nodes: usize) {
     let mut random = Random::new(11);
     let asked: Vec<usize> = numbers(&mut random, nodes).into_iter().map(|it| ours.node_handle(it)).collect();
     let above: Vec<(usize, u64)> = asked.iter().map(|&it| (it, random.below(16) + 1)).collect();
-    table.query("close", &asked, |&it| answer(ours.close(it)), |&it| answer(theirs.close(it)));
-    table.query("parent", &asked, |&it| answer(ours.parent(it)), |&it| answer(theirs.parent(it)));
+    table.query("`close`", &asked, |&it| answer(ours.close(it)), |&it| answer(theirs.close(it)));
+    table.query("`parent`", &asked, |&it| answer(ours.parent(it)), |&it| answer(theirs.parent(it)));
     table.query(
-        "level_ancestor",
+        "`level_ancestor`",
         &above,
         |&(node, levels)| answer(ours.level_ancestor(node, levels)),
         |&(node, levels)| answer(theirs.level_ancestor(node, levels)),
+    );
+    table.walk(
+        "`dfs_iter`, a node",
+        nodes,
+        || ours.dfs_iter().map(|it| it as u64),
+        || theirs.dfs_iter().map(|it| it as u64),
     );
 }
 
