@@ -1,11 +1,10 @@
 #!/usr/bin/env python3
 """Draws the tables of docs/PERFORMANCE.md by matplotlib (Debian's package `python3-matplotlib`), and measures nothing.
 
-docs/speed.svg has a bar for each figure that `tools/pages.py` reads there, and docs/growth.svg a line for each
-operation of the tables that `growth` printed.
+docs/speed.svg has a bar for each figure that `tools/pages.py` reads there, and docs/growth.svg a line for each operation
+of the same tables, which `growth` printed.
 """
 import os
-import re
 import sys
 from itertools import groupby
 
@@ -44,30 +43,20 @@ def draw_speed():
     save(figure, "speed.svg")
 
 
-def read_growth():
-    """Yields the title of each table of times by size, the sizes, and the times of each operation, here and in the
-    original."""
-    with open(os.path.join(compare.TOP, "docs/PERFORMANCE.md"), encoding="utf-8") as file:
-        section = re.search(r"(?s)## Growth with size\n(.*?)\n## ", file.read())[1]
-    for table in re.findall(r"(?m)^(?:\|.*\n)+", section):
-        (title, *sizes), _, *rows = [line.strip("|").split("|") for line in table.splitlines()]
-        powers = [int(base) ** int(exponent) for base, exponent in (it.split("^") for it in sizes)]
-        yield title.replace("`", ""), powers, {
-            name.strip("`"): [[float(it) for it in cell.split(", ")] for cell in cells] for name, *cells in rows}
-
-
 def draw_growth():
-    """Draws, for each structure, how the times of its queries and of its build grow with its size."""
-    tables = list(read_growth())
+    """Draws, for each structure, how the times of its queries, of its build and of a walk grow with its size."""
+    tables = list(pages.growth_tables())
     figure, rows = pyplot.subplots(len(tables), 2, figsize=(9, 2.6 * len(tables)), layout="constrained")
-    for row, (title, sizes, times) in zip(rows, tables):
-        structure, unit = title.split(", ")
-        queries = [it for it in times if it != "build"]
-        for panel, operations, what in zip(row, (queries, ["build"]), ("a query", "a build, an item")):
-            for operation in operations:
-                here, original = zip(*times[operation])
-                (line,) = panel.plot(sizes, here, label=operation)
-                panel.plot(sizes, original, color=line.get_color(), linestyle="--")
+    for row, ((structure, unit), sizes, operations) in zip(rows, tables):
+        powers = [int(base) ** int(exponent) for base, exponent in (it.split("^") for it in sizes)]
+        for panel, is_whole, what in zip(row, (False, True), ("a query", "an item of a build or of a walk")):
+            for name, *cells in operations:
+                call = pages.CALL.fullmatch(name)
+                if bool(call and call[2]) != is_whole:
+                    continue
+                here, original = zip(*(map(float, pages.CELL.fullmatch(it).groups()[:2]) for it in cells))
+                (line,) = panel.plot(powers, here, label=name.replace("`", ""))
+                panel.plot(powers, original, color=line.get_color(), linestyle="--")
             panel.set(xscale="log", yscale="log", title=f"{structure}: {what}, ns", xlabel=unit)
             panel.legend(fontsize=8)
     figure.suptitle("Solid: this library. Dashed: vers-vecs 1.10.2.")

@@ -4,8 +4,8 @@
 CALLS lists the calls that `cargo doc` describes under the same names by the bounds on their reads, and each other call
 as it is declared, with what this doesn't say.
 
-A row of a table of PERFORMANCE is read if its first cell is a call, such as `rank1` or `FastRmq::range_min`, or a call
-and what its time is for, such as "`iter1`, a position".
+The figures are those of PERFORMANCE's tables of times by size, in rows whose first cell is a call, such as `rank1`, or a
+call and what its time is for, such as "`iter1`, a position".
 
 It also lists the names that the facade exports, and the calls of its types, that are neither in the table of our own
 names in docs/DIFFERENCES.md nor among those of vers-vecs (tools/original_names.txt), and the names in the first that
@@ -27,40 +27,44 @@ from sources import TOP, missed_plants, public_functions, read, read_crate, repo
 PAGE, DIFFERENCES, FACADE = "docs/CALLS.md", "docs/DIFFERENCES.md", "crates/vers_vecs/src/lib.rt"
 ORIGINAL = "tools/original_names.txt"
 SOURCE, README = "docs/PERFORMANCE.md", "README.md"
-# The tables that are read: the heading (the type, unless the rows name it), the data, and the column of their times.
-SECTIONS = (
-    ("RsVec", "2^20 bits, half ones", "2^20 bits, 50%"),
-    ("RsVec", "2^26 bits, half ones", "2^26 bits, 50%"),
-    ("EliasFanoVec", "10^6 elements far apart", "uniform"),
-    ("FastRmq and BinaryRmq", "10^6 items", "10^6 items"),
-    ("WaveletMatrix", "10^6 symbols of 8 bits", "8 bits"),
-    ("BpTree", "a random tree of 10^6 nodes", "random tree"),
+# The columns that are read: the structure, the size, and what the data are.
+COLUMNS = (
+    ("RsVec", "2^20", "2^20 bits, half ones"),
+    ("RsVec", "2^26", "2^26 bits, half ones"),
+    ("EliasFanoVec", "10^6", "10^6 elements far apart"),
+    ("WaveletMatrix", "10^6", "10^6 symbols of 8 bits"),
+    ("FastRmq", "10^6", "10^6 items"),
+    ("BpTree", "10^6", "a random tree of 10^6 nodes"),
 )
-# A cell: the time here, that of vers-vecs unless it is left out, and the ratio.
-CELL = re.compile(r"(\S+?)(?:, \S+)? \((\S+)\)")
-CALL = re.compile(r"`(?:(\w+)::)?(\w+)`(?:, (an? \w+)(?: asked or answered)?)?")
+# A cell: the time here, that of vers-vecs, and the ratio.
+CELL = re.compile(r"(\S+), (\S+) \((\S+)\)")
+# A call, and what its time is for.
+CALL = re.compile(r"`(\w+)`(?:, (an? \w+))?")
 # A time: of which call, over which data, how long, and its ratio to the original's.
 Figure = namedtuple("Figure", "holder call data time ratio")
 
 
+def growth_tables():
+    """Yields the tables of times by size: the structure and the unit of its sizes, the sizes, and the rows, each of
+    which begins with its operation."""
+    section = re.search(r"(?s)## Growth with size\n(.*?)\n## ", read(SOURCE))[1]
+    for table in re.findall(r"(?m)^(?:\|.*\n)+", section):
+        (title, *sizes), _, *rows = [line.strip("|").split("|") for line in table.splitlines()]
+        yield title.replace("`", "").split(", "), sizes, rows
+
+
 def figures():
     """Returns the figures, in the order of the plot."""
-    tables, heading, found = defaultdict(list), "", {}
-    for line in read(SOURCE).splitlines():
-        heading = line.lstrip("#").replace("`", "").strip() if line.startswith("#") else heading
-        if line.startswith("|"):
-            tables[heading].append([cell.strip() for cell in line.strip("|").split("|")])
-    for heading, data, column in SECTIONS:
-        at, before = None, len(found)
-        for row in tables[heading]:
-            at = row.index(column) if column in row else at
-            call, cell = CALL.fullmatch(row[0]), at and CELL.fullmatch(row[at])
-            if call and cell:
-                it = Figure(call[1] or heading, call[2], data, f"{cell[1]} ns {call[3] or 'a query'}", cell[2])
-                found.setdefault(it[:3], it)
-        if len(found) < before + 2:
-            sys.exit(f"{SOURCE} has no table over {data} in the section {heading!r}")
-    return list(found.values())
+    tables, found = {names[0]: (sizes, rows) for names, sizes, rows in growth_tables()}, []
+    for holder, size, data in COLUMNS:
+        sizes, rows = tables.get(holder, ((), ()))
+        if size not in sizes:
+            sys.exit(f"{SOURCE} has no times of {holder} over {data}")
+        for name, *cells in rows:
+            call, cell = CALL.fullmatch(name), CELL.fullmatch(cells[sizes.index(size)])
+            if call:
+                found.append(Figure(holder, call[1], data, f"{cell[1]} ns {call[2] or 'a query'}", cell[3]))
+    return found
 
 
 def with_figures(text, found):
@@ -180,8 +184,8 @@ PLANTS = (
     (f"{PAGE} {STALE}", "rust/src/bit_vec/mod.rs", "fn split_at_unchecked(", "fn split_unchecked("),
     (f"{definitions.PAGE} {STALE}", "crates/vers_bits/specs/Bits.antt", "-- rank: how many of", "-- how many of"),
     (f"{manual.PAGE} {STALE}", manual.HELP, "bits 0110  (a bit vector)", "bits 0110  (a list of bits)"),
-    (f"{README} {STALE}", SOURCE, "|`rank1`|7.6 (0.54)|", "|`rank1`|7.5 (0.54)|"),
-    ("has no table over 2^20 bits", SOURCE, "|operation|2^20 bits, 50%|2^20 bits, 5%|2^26 bits, 50%|", "|operation|a|b|c|"),
+    (f"{README} {STALE}", README, " ns a query |", " ns |"),
+    ("has no times of RsVec over 2^20 bits", SOURCE, "|`RsVec`, bits|2^16|2^20|", "|`RsVec`, bits|2^16|2^21|"),
     ("of our own names lacks `BitVec::limb`", DIFFERENCES, "| `BitVec::limb`, ", "| "),
     ("`BitVec::limbs` is no name of our own", DIFFERENCES, "| `BitVec::limb`, ", "| `BitVec::limb`, `BitVec::limbs`, "),
 )
