@@ -38,7 +38,7 @@ WHOLE = {
 }
 # Functions that make a counter, besides the calls whose names end in `_unchecked`: those without a counted form, and
 # lists that are made of counted numbers.
-FRESH = {"RsVec::has_positions_of", "WaveletMatrix::position_from", "BothEnds::last",
+FRESH = {"RsVec::has_positions_of", "WaveletMatrix::position_from", "BothEnds::last", "put_marked",
          "intersection", "union", "difference", "intersection_of", "union_of", "difference_of"}
 # Plain lists that types may contain: tables of numbers that are stored for queries, what is at work while something is
 # made, and iterators over counted lists.

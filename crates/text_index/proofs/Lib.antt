@@ -18,6 +18,7 @@ pub mod Packing
 pub mod Sampling
 pub mod Keeping
 pub mod Numbering
+pub mod Marked
 pub mod Ascending
 pub mod Bounds
 pub mod PublicLaws

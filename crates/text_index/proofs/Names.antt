@@ -32,12 +32,12 @@ pub use Rattle.text_index.specs.inside.Checking.{CheckedUpTo, HeadsAt, HeadsUpTo
 pub use Rattle.text_index.specs.inside.Groups.{AreQueries, AsksFor, HasComeTo, HaveMoved, HaveRows, IsAbsent, taken_reads}
 pub use Rattle.text_index.specs.inside.Paths.{AreLinked, HasCome, HaveCome, IsKeptPath, IsLoaded, IsNext, IsOnePath, IsWalk, NextUpTo, SteppedUpTo, led_by}
 unfoldable pub use Rattle.text_index.specs.inside.Paths.{walked, walked_on}
-pub use Rattle.text_index.specs.inside.Samples.{AreNumbers, AreSamplesOf, HoldRanks, HoldRows, IsPacked, PutRows, Walked, between, unpacked}
+pub use Rattle.text_index.specs.inside.Samples.{AreNumbers, AreSamplesOf, HoldMarked, HoldRanks, HoldRows, IsPacked, PutRows, Walked, between, unpacked}
 pub use Rattle.text_index.specs.inside.Suffixes.{Found, IsIndexOf, StepsBack, back, column_position, is_not_after, lesser, passing, seen, text_in}
 unfoldable pub use Rattle.text_index.specs.inside.Suffixes.{not_above, spelled, text_of}
-pub use Rattle.vers_bits.proofs.PublicLaws.{length-packed, passes_first, select_at}
-pub use Rattle.vers_bits.specs.Bits.{is_bit, limb_count, low_bits, number, pack, part, select}
-unfoldable pub use Rattle.vers_bits.specs.Bits.{count, part_number}
+pub use Rattle.vers_bits.proofs.PublicLaws.{count_at_select, length-packed, length-positions, passes_first, select_at, select_holds, select_up}
+pub use Rattle.vers_bits.specs.Bits.{is_bit, limb_count, low_bits, number, pack, part, positions}
+unfoldable pub use Rattle.vers_bits.specs.Bits.{count, part_number, select}
 pub use Rattle.vers_bits.specs.Laws.{PackedElementsAreItems}
 pub use Rattle.vers_rank.specs.Queries.{get_reads, index_size, select_reads, superblock_count}
 pub use Rattle.vers_tally.proofs.PublicLaws.{adds_nothing, adds_then, adds_weaker, digits-le, digits_is, digits_pow, digits_up, pow_next, within_itself}

@@ -1,5 +1,6 @@
 //! The constructor of a text and its allocating queries, each of their requests refused in turn, and the other
 //! queries, which allocate nothing.
+use crate::loads::are_rows;
 use crate::shared::{are_counted, are_first, are_plain, periodic};
 use std::alloc::{AllocError, Allocator, Global};
 use test_alloc::{
@@ -50,6 +51,7 @@ enum Call {
     First,
     Ascending,
     Extract,
+    Rows,
 }
 
 // The symbols of a text that was made.
@@ -90,6 +92,27 @@ impl<A: Allocator + Copy> Making for Extracting<'_, A> {
             Some(piece) => piece.as_slice() == self.symbols,
             None => false,
         }
+    }
+}
+
+// The call that lists the rows of the sampled positions.
+#[derive(Drop)]
+struct Sampling<'a, A: Allocator + Copy> {
+    text: &'a TextIndex<A>,
+    symbols: &'a [u64],
+}
+
+impl<A: Allocator + Copy> Making for Sampling<'_, A> {
+    type Made = Vec<u32, A>;
+
+    type Fault = AllocError;
+
+    fn make(&self) -> Result<Vec<u32, A>, AllocError> {
+        self.text.kept_rows()
+    }
+
+    fn is_right(&self, rows: &Vec<u32, A>) -> bool {
+        are_rows(rows.as_slice(), self.symbols, self.text.step())
     }
 }
 
@@ -138,6 +161,13 @@ impl<B: Allocator, A: Allocator + Copy> Tried<TextIndex<A>> for Listed<'_, B> {
             };
             return try_making(self.heap, &extracting);
         }
+        if matches!(self.call, Call::Rows) {
+            let sampling = Sampling {
+                text,
+                symbols: self.symbols,
+            };
+            return try_making(self.heap, &sampling);
+        }
         let listing = Listing {
             call: self.call,
             text,
@@ -171,7 +201,7 @@ impl Trial<Global> for Call {
     // A text without the symbol has no positions to list, and the empty text no symbols.
     fn takes_memory(self, len: usize) -> bool {
         match self {
-            Call::Make | Call::Clone => true,
+            Call::Make | Call::Clone | Call::Rows => true,
             Call::First | Call::Ascending => len > 1,
             Call::Extract => len > 0,
         }
@@ -186,6 +216,7 @@ fn each_request_is_refused_in_turn(rt: HostRuntime) {
         Call::First,
         Call::Ascending,
         Call::Extract,
+        Call::Rows,
     ];
     assert!(rt; first_wrong_trial(rt.alloc(), &LENGTHS, &calls).is_none());
 }

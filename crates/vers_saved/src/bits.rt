@@ -48,6 +48,8 @@ impl<A: Allocator + Copy> Saved for BitVec<A> {
 
     ghost Fits = { λ _. ⊤ };
 
+    type Prepared = ();
+
     fn kind() -> Kind {
         BIT_LISTS
     }
@@ -60,6 +62,8 @@ impl<A: Allocator + Copy> Saved for BitVec<A> {
     fn word(&self, k: usize) -> u64 {
         self.limb(k)
     }
+
+    fn prepare(&self) {}
 }
 
 #[tactic(auto, using(crate::proofs::BitLists::bits, crate::proofs::Sources::bits))]
@@ -89,6 +93,8 @@ impl<A: Allocator + Copy> Saved for RsVec<A> {
 
     ghost Fits = { λ _. ⊤ };
 
+    type Prepared = ();
+
     fn kind() -> Kind {
         BIT_LISTS
     }
@@ -101,6 +107,8 @@ impl<A: Allocator + Copy> Saved for RsVec<A> {
     fn word(&self, k: usize) -> u64 {
         limb_of(self, k)
     }
+
+    fn prepare(&self) {}
 }
 
 #[tactic(auto, using(crate::proofs::BitLists::bits, crate::proofs::Sources::bits))]

@@ -24,6 +24,8 @@ impl<A: Allocator + Copy> Saved for Postings<A> {
 
     ghost Fits = { ArePaired };
 
+    type Prepared = ();
+
     fn kind() -> Kind {
         POSTING_LISTS
     }
@@ -50,6 +52,8 @@ impl<A: Allocator + Copy> Saved for Postings<A> {
     fn copy_words(&self, from: usize, out: &mut [u64]) {
         copy_elements(self.documents().iter(), self.costs(), from, out)
     }
+
+    fn prepare(&self) {}
 }
 
 #[tactic(auto, using(crate::proofs::PostingLists::postings))]

@@ -66,6 +66,8 @@ impl<A: Allocator + Copy> Saved for InvertedIndex<A> {
 
     ghost Fits = { IsOfNumbers };
 
+    type Prepared = ();
+
     fn kind() -> Kind {
         INVERTED_LISTS
     }
@@ -98,6 +100,8 @@ impl<A: Allocator + Copy> Saved for InvertedIndex<A> {
             out[k] = self.word(from + k);
         }
     }
+
+    fn prepare(&self) {}
 }
 
 #[tactic(auto, using(crate::proofs::InvertedForms::inverted))]

@@ -81,6 +81,8 @@ impl<A: Allocator + Copy> Saved for EliasFanoVec<A> {
 
     ghost Fits = { IsNonDecreasing };
 
+    type Prepared = ();
+
     fn kind() -> Kind {
         SORTED_LISTS
     }
@@ -102,6 +104,8 @@ impl<A: Allocator + Copy> Saved for EliasFanoVec<A> {
     fn copy_words(&self, from: usize, out: &mut [u64]) {
         copy_list(self, from, out)
     }
+
+    fn prepare(&self) {}
 }
 
 #[tactic(auto, using(crate::proofs::SortedForms::sorted))]
@@ -137,6 +141,8 @@ impl<A: Allocator + Copy> Saved for BinaryRmq<A> {
 
     ghost Fits = { λ _. ⊤ };
 
+    type Prepared = ();
+
     fn kind() -> Kind {
         TABLE_VALUES
     }
@@ -150,6 +156,8 @@ impl<A: Allocator + Copy> Saved for BinaryRmq<A> {
     fn word(&self, k: usize) -> u64 {
         self.item(k)
     }
+
+    fn prepare(&self) {}
 }
 
 #[tactic(auto, using(crate::proofs::WordLists::numbers))]
@@ -179,6 +187,8 @@ impl<A: Allocator + Copy> Saved for FastRmq<A> {
 
     ghost Fits = { λ _. ⊤ };
 
+    type Prepared = ();
+
     fn kind() -> Kind {
         BLOCK_VALUES
     }
@@ -192,6 +202,8 @@ impl<A: Allocator + Copy> Saved for FastRmq<A> {
     fn word(&self, k: usize) -> u64 {
         self.as_slice()[k]
     }
+
+    fn prepare(&self) {}
 }
 
 #[tactic(auto, using(crate::proofs::WordLists::numbers))]

@@ -1,5 +1,5 @@
 //! `Saved`: lists that are saved to bytes and loaded from them.
-ghost use Rattle.std.specs.Prelude.{◌≡◌, ◌<◌, ◌≤◌, ◌+◌, ◌*◌, ℕ, List, ◌++◌, ◌⊎◌, length, take, drop, fold, slice_index, vec_len, vec_capacity, OnOk, OnErr, IfOk, IfErr, IfSome, MatchResult, Some, None, false, true, ◌≢◌};
+ghost use Rattle.std.specs.Prelude.{◌≡◌, ◌<◌, ◌≤◌, ◌+◌, ◌*◌, ℕ, List, ◌++◌, ◌⊎◌, ⊤, length, take, drop, fold, slice_index, vec_len, vec_capacity, OnOk, OnErr, IfOk, IfErr, IfSome, MatchResult, Some, None, false, true, ◌≢◌};
 ghost use Rattle.vers_saved.specs.declared.kind.Kind.{Kind};
 ghost use Rattle.vers_saved.specs.Format.{bytes_of, mix, saved};
 ghost use Rattle.vers_saved.specs.Faults.{at_version, count_in, fault_of, first_count, has_first, packed_kind, words_in};
@@ -28,6 +28,12 @@ pub trait Saved {
 
     // A property of a list that its words don't show.
     ghost Fits: { Self → Type 0 };
+
+    /// What a save makes once of a list, so that the words are copied faster.
+    type Prepared: Drop;
+
+    // What may be made of a list.
+    ghost IsPrepared: { Self → Self.Prepared → Type 0 } = { λ _ _. ⊤ };
 
     /// Returns the kind of such lists.
     fn kind() -> Kind
@@ -59,6 +65,22 @@ pub trait Saved {
         for k in 0..out.len() {
             out[k] = self.word(from + k);
         }
+    }
+
+    /// Returns what `copy_prepared` takes. May allocate, and needs no memory: if a request is refused, the words are
+    /// copied as by `copy_words`.
+    fn prepare(&self) -> Self::Prepared
+        ensures { IsPrepared self.now result };
+
+    /// Copies the words that `copy_words` does. Precondition: the same, and `prepared` was made of the list.
+    fn copy_prepared(&self, _prepared: &Self::Prepared, from: usize, out: &mut [u64])
+        requires prepared { IsPrepared self.now _prepared.now }
+        requires whole { IsWhole kind (count self.now) (width self.now) (words self.now) }
+        requires within { from + length out.old ≤ length (words self.now) }
+        ensures { (j : ℕ) → j < length out.old
+            → slice_index out.new j ≡ slice_index (words self.now) (from + j) }
+    {
+        self.copy_words(from, out)
     }
 }
 
@@ -130,9 +152,11 @@ pub(crate) fn put_group<S: Saved, B: Allocator>(
     out: &mut Vec<u8, B>,
     sum: u64,
     list: &S,
+    prepared: &S::Prepared,
     from: usize,
     n: usize,
 ) -> u64
+    requires prepared { S.IsPrepared list.now prepared.now }
     requires few { n ≤ 512 }
     requires within { from + n ≤ length (S.words list.now) }
     requires whole { IsWhole S.kind (S.count list.now) (S.width list.now) (S.words list.now) }
@@ -144,7 +168,7 @@ pub(crate) fn put_group<S: Saved, B: Allocator>(
 {
     let mut group = [0; GROUP];
     let words = &mut group[..n];
-    list.copy_words(from, words);
+    list.copy_prepared(prepared, from, words);
     put_words(out, sum, words)
 }
 
@@ -163,11 +187,12 @@ fn append_saved<S: Saved, B: Allocator>(
 {
     let count = count_words(list, shape);
     out.reserve(8 * (count + FRAME))?;
+    let prepared = list.prepare();
     let mut sum = put_head(out, &S::kind(), shape);
     let mut done = 0;
     while done < count {
         let n = GROUP.min(count - done);
-        sum = put_group(out, sum, list, done, n);
+        sum = put_group(out, sum, list, &prepared, done, n);
         done += n;
     }
     put_word(out, sum);

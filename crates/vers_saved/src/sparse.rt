@@ -23,6 +23,8 @@ impl<A: Allocator + Copy> Saved for SparseRSVec<A> {
 
     ghost Fits = { λ _. ⊤ };
 
+    type Prepared = ();
+
     fn kind() -> Kind {
         SPARSE_LISTS
     }
@@ -53,6 +55,8 @@ impl<A: Allocator + Copy> Saved for SparseRSVec<A> {
             out[k] = self.word(k);
         }
     }
+
+    fn prepare(&self) {}
 }
 
 #[tactic(auto, using(crate::proofs::SortedForms::sparse, crate::proofs::SparseLists::listed))]

@@ -73,6 +73,7 @@ fn write_words<S: Saved, W: Sink, A: Allocator>(
     ensures cause { OnErr result (FollowsWriteFault W.write_gives writer.new) }
 {
     let count = count_words(list, shape);
+    let prepared = list.prepare();
     let mut sum = put_head(&mut buffer, &S::kind(), shape);
     let mut done = 0;
     while done < count {
@@ -80,7 +81,7 @@ fn write_words<S: Saved, W: Sink, A: Allocator>(
             return Err(error);
         }
         let n = GROUP.min(count - done);
-        sum = put_group(&mut buffer, sum, list, done, n);
+        sum = put_group(&mut buffer, sum, list, &prepared, done, n);
         done += n;
     }
     put_word(&mut buffer, sum);

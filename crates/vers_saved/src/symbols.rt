@@ -139,6 +139,8 @@ impl<A: Allocator + Copy> Saved for WaveletMatrix<A> {
 
     ghost Fits = { λ symbols. All (λ y. y < 2 ^ symbols.width) symbols.items };
 
+    type Prepared = ();
+
     fn kind() -> Kind {
         SYMBOL_LISTS
     }
@@ -162,6 +164,8 @@ impl<A: Allocator + Copy> Saved for WaveletMatrix<A> {
     fn copy_words(&self, from: usize, out: &mut [u64]) {
         copy_levels(self, from, out)
     }
+
+    fn prepare(&self) {}
 }
 
 #[tactic(auto, using(crate::proofs::SymbolLevels::symbols))]

@@ -49,6 +49,8 @@ impl<const BLOCK_SIZE: usize, A: Allocator + Copy> Saved for BpTree<BLOCK_SIZE, 
 
     ghost Fits = { λ _. ⊤ };
 
+    type Prepared = ();
+
     fn kind() -> Kind {
         tree_kind(BLOCK_SIZE)
     }
@@ -67,6 +69,8 @@ impl<const BLOCK_SIZE: usize, A: Allocator + Copy> Saved for BpTree<BLOCK_SIZE, 
     fn word(&self, k: usize) -> u64 {
         limb_of(self.bits(), k)
     }
+
+    fn prepare(&self) {}
 }
 
 // Returns the parentheses in words, of a tree with blocks of `size` bits.

@@ -271,6 +271,40 @@ fn texts_of_each_width(rt: HostRuntime) {
     assert!(rt; are_right);
 }
 
+// Returns true if a save requests memory of the text's allocator once, and appends and writes the same bytes if the
+// allocator refuses every request.
+fn is_saved_without_memory(alloc: Global, heap: &Heap, text: &TextIndex<&Heap>) -> bool {
+    let mut out: Vec<u8> = Vec::new(alloc);
+    let before = heap.asked();
+    if save_to_vec(text, &mut out).is_err() || heap.asked() != before.wrapping_add(1) {
+        return false;
+    }
+    heap.refuse_all();
+    let bytes = out.as_slice();
+    is_saved_as(alloc, text, bytes) && is_written(alloc, text, bytes, 30) && heap.refused() > 1
+}
+
+fn saves_without_memory(alloc: Global, n: usize, step: usize) -> bool {
+    let Ok(symbols) = symbols_of(alloc, 0, n, 2) else {
+        return false;
+    };
+    let heap = Refusing::none(alloc);
+    let made = TextIndex::with_step(&heap, symbols.as_slice(), 2, step);
+    asked(
+        made,
+        |text: &TextIndex<&Heap>| is_saved_without_memory(alloc, &heap, text),
+    ) == Ok(true)
+}
+
+#[test]
+fn texts_are_saved_without_memory(rt: HostRuntime) {
+    for n in LENGTHS {
+        for step in [1, 3, 32, usize::MAX] {
+            assert!(rt; saves_without_memory(rt.alloc(), n, step));
+        }
+    }
+}
+
 // Returns the error of a load from a reader that returns that many bytes at once and fails at one read.
 fn piece_fault(alloc: Global, bytes: &[u8], piece: usize, fails_at: u64) -> Option<LoadError> {
     let mut reader = Pieces {

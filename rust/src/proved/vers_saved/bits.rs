@@ -30,6 +30,8 @@ pub(crate) fn limb_of<A: Allocator + Copy>(bits: &RsVec<A>, k: usize) -> u64 {
 }
 
 impl<A: Allocator + Copy> Saved for BitVec<A> {
+    type Prepared = ();
+
     fn kind() -> Kind {
         BIT_LISTS
     }
@@ -42,6 +44,8 @@ impl<A: Allocator + Copy> Saved for BitVec<A> {
     fn word(&self, k: usize) -> u64 {
         self.limb(k)
     }
+
+    fn prepare(&self) {}
 }
 
 impl<A: Allocator + Copy> Loaded<A> for BitVec<A> {
@@ -51,6 +55,8 @@ impl<A: Allocator + Copy> Loaded<A> for BitVec<A> {
 }
 
 impl<A: Allocator + Copy> Saved for RsVec<A> {
+    type Prepared = ();
+
     fn kind() -> Kind {
         BIT_LISTS
     }
@@ -63,6 +69,8 @@ impl<A: Allocator + Copy> Saved for RsVec<A> {
     fn word(&self, k: usize) -> u64 {
         limb_of(self, k)
     }
+
+    fn prepare(&self) {}
 }
 
 impl<A: Allocator + Copy> Loaded<A> for RsVec<A> {

@@ -12,6 +12,8 @@ use crate::rattle::Allocator;
 use crate::proved::vers_rmq::rmq::fast_rmq::MAX_LEN;
 
 impl<A: Allocator + Copy> Saved for Postings<A> {
+    type Prepared = ();
+
     fn kind() -> Kind {
         POSTING_LISTS
     }
@@ -38,6 +40,8 @@ impl<A: Allocator + Copy> Saved for Postings<A> {
     fn copy_words(&self, from: usize, out: &mut [u64]) {
         copy_elements(self.documents().iter(), self.costs(), from, out)
     }
+
+    fn prepare(&self) {}
 }
 
 impl<A: Allocator + Copy> Loaded<A> for Postings<A> {

@@ -42,6 +42,8 @@ fn index_of<A: Allocator + Copy>(
 }
 
 impl<A: Allocator + Copy> Saved for InvertedIndex<A> {
+    type Prepared = ();
+
     fn kind() -> Kind {
         INVERTED_LISTS
     }
@@ -74,6 +76,8 @@ impl<A: Allocator + Copy> Saved for InvertedIndex<A> {
             out[k] = self.word(from + k);
         }
     }
+
+    fn prepare(&self) {}
 }
 
 impl<A: Allocator + Copy> Loaded<A> for InvertedIndex<A> {

@@ -53,6 +53,8 @@ pub(crate) fn copy_elements<A: Allocator + Copy>(
 }
 
 impl<A: Allocator + Copy> Saved for EliasFanoVec<A> {
+    type Prepared = ();
+
     fn kind() -> Kind {
         SORTED_LISTS
     }
@@ -74,6 +76,8 @@ impl<A: Allocator + Copy> Saved for EliasFanoVec<A> {
     fn copy_words(&self, from: usize, out: &mut [u64]) {
         copy_list(self, from, out)
     }
+
+    fn prepare(&self) {}
 }
 
 impl<A: Allocator + Copy> Loaded<A> for EliasFanoVec<A> {
@@ -89,6 +93,8 @@ impl<A: Allocator + Copy> Loaded<A> for EliasFanoVec<A> {
 }
 
 impl<A: Allocator + Copy> Saved for BinaryRmq<A> {
+    type Prepared = ();
+
     fn kind() -> Kind {
         TABLE_VALUES
     }
@@ -102,6 +108,8 @@ impl<A: Allocator + Copy> Saved for BinaryRmq<A> {
     fn word(&self, k: usize) -> u64 {
         self.item(k)
     }
+
+    fn prepare(&self) {}
 }
 
 impl<A: Allocator + Copy> Loaded<A> for BinaryRmq<A> {
@@ -111,6 +119,8 @@ impl<A: Allocator + Copy> Loaded<A> for BinaryRmq<A> {
 }
 
 impl<A: Allocator + Copy> Saved for FastRmq<A> {
+    type Prepared = ();
+
     fn kind() -> Kind {
         BLOCK_VALUES
     }
@@ -124,6 +134,8 @@ impl<A: Allocator + Copy> Saved for FastRmq<A> {
     fn word(&self, k: usize) -> u64 {
         self.as_slice()[k]
     }
+
+    fn prepare(&self) {}
 }
 
 impl<A: Allocator + Copy> Loaded<A> for FastRmq<A> {

@@ -13,6 +13,9 @@ use crate::rattle::Allocator;
 /// A list that has a saved form, by its words. A list that satisfies `IsWhole` and `Fits` is loaded as it was
 /// saved.
 pub trait Saved {
+    /// What a save makes once of a list, so that the words are copied faster.
+    type Prepared: Sized;
+
     /// Returns the kind of such lists.
     fn kind() -> Kind;
 
@@ -28,6 +31,15 @@ pub trait Saved {
         for k in 0..out.len() {
             out[k] = self.word(from + k);
         }
+    }
+
+    /// Returns what `copy_prepared` takes. May allocate, and needs no memory: if a request is refused, the words are
+    /// copied as by `copy_words`.
+    fn prepare(&self) -> Self::Prepared;
+
+    /// Copies the words that `copy_words` does. Precondition: the same, and `prepared` was made of the list.
+    fn copy_prepared(&self, _prepared: &Self::Prepared, from: usize, out: &mut [u64]) {
+        self.copy_words(from, out)
     }
 }
 
@@ -67,12 +79,13 @@ pub(crate) fn put_group<S: Saved, B: Allocator>(
     out: &mut Vec<u8, B>,
     sum: u64,
     list: &S,
+    prepared: &S::Prepared,
     from: usize,
     n: usize,
 ) -> u64 {
     let mut group = [0; GROUP];
     let words = &mut group[..n];
-    list.copy_words(from, words);
+    list.copy_prepared(prepared, from, words);
     put_words(out, sum, words)
 }
 
@@ -84,11 +97,12 @@ fn append_saved<S: Saved, B: Allocator>(
 ) -> Result<(), AllocError> {
     let count = count_words(list, shape);
     out.reserve(8 * (count + FRAME))?;
+    let prepared = list.prepare();
     let mut sum = put_head(out, &S::kind(), shape);
     let mut done = 0;
     while done < count {
         let n = GROUP.min(count - done);
-        sum = put_group(out, sum, list, done, n);
+        sum = put_group(out, sum, list, &prepared, done, n);
         done += n;
     }
     put_word(out, sum);

@@ -12,6 +12,8 @@ use crate::rattle::Allocator;
 use crate::proved::vers_sorted::sparse::SparseRSVec;
 
 impl<A: Allocator + Copy> Saved for SparseRSVec<A> {
+    type Prepared = ();
+
     fn kind() -> Kind {
         SPARSE_LISTS
     }
@@ -42,6 +44,8 @@ impl<A: Allocator + Copy> Saved for SparseRSVec<A> {
             out[k] = self.word(k);
         }
     }
+
+    fn prepare(&self) {}
 }
 
 impl<A: Allocator + Copy> Loaded<A> for SparseRSVec<A> {

@@ -46,6 +46,7 @@ fn write_words<S: Saved, W: Sink, A: Allocator>(
     list: &S,
 ) -> Result<(), SaveError> {
     let count = count_words(list, shape);
+    let prepared = list.prepare();
     let mut sum = put_head(&mut buffer, &S::kind(), shape);
     let mut done = 0;
     while done < count {
@@ -53,7 +54,7 @@ fn write_words<S: Saved, W: Sink, A: Allocator>(
             return Err(error);
         }
         let n = GROUP.min(count - done);
-        sum = put_group(&mut buffer, sum, list, done, n);
+        sum = put_group(&mut buffer, sum, list, &prepared, done, n);
         done += n;
     }
     put_word(&mut buffer, sum);

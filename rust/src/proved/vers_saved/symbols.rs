@@ -94,6 +94,8 @@ fn levels_of<A: Allocator + Copy>(
 }
 
 impl<A: Allocator + Copy> Saved for WaveletMatrix<A> {
+    type Prepared = ();
+
     fn kind() -> Kind {
         SYMBOL_LISTS
     }
@@ -117,6 +119,8 @@ impl<A: Allocator + Copy> Saved for WaveletMatrix<A> {
     fn copy_words(&self, from: usize, out: &mut [u64]) {
         copy_levels(self, from, out)
     }
+
+    fn prepare(&self) {}
 }
 
 impl<A: Allocator + Copy> Loaded<A> for WaveletMatrix<A> {

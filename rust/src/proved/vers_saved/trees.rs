@@ -31,6 +31,8 @@ pub fn tree_kind(size: usize) -> Kind {
 }
 
 impl<const BLOCK_SIZE: usize, A: Allocator + Copy> Saved for BpTree<BLOCK_SIZE, A> {
+    type Prepared = ();
+
     fn kind() -> Kind {
         tree_kind(BLOCK_SIZE)
     }
@@ -49,6 +51,8 @@ impl<const BLOCK_SIZE: usize, A: Allocator + Copy> Saved for BpTree<BLOCK_SIZE, 
     fn word(&self, k: usize) -> u64 {
         limb_of(self.bits(), k)
     }
+
+    fn prepare(&self) {}
 }
 
 // Returns the parentheses in words, of a tree with blocks of `size` bits.
