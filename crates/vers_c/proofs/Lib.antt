@@ -5,3 +5,4 @@ pub mod Counted
 pub mod NumberSets
 mod OwnerBoxes
 pub mod SymbolAnswers
+pub mod TextBuilds

@@ -3,7 +3,6 @@ pub use Rattle.core.proofs.alloc.Calls.{Fits, Goes-blank, handle_tells, token, �
 pub use Rattle.std.proofs.Common.{Bool, None, Option, Some, arith, false, get_or, length, lit<, map, set, slice_get, slice_set, take, take-add, true, ◌+◌, ◌-◌, ◌<◌, ◌≤◌}
 pub use Rattle.std.proofs.lemmas.List.{append_assoc, drop-drop, drop_at, drop_more, get_or-map, get_or_at, length-map, length-take-le, map-append, map_more, map_push, take_at, take_more_set}
 pub use Rattle.std.proofs.lemmas.List.Edits.{map_over_more}
-pub use Rattle.std.proofs.lemmas.Nat.{one_shl}
 pub use Rattle.std.proofs.lemmas.Option.{slice_get_past}
 pub use Rattle.std.proofs.lemmas.Simd.{map-map}
 pub use Rattle.std.specs.Prelude.{Err, IfOk, Ok, Result, if◌then◌else◌, nat_le, option_and_then, slice_range, ◌&&◌}

@@ -1,6 +1,8 @@
 //! Exports on texts: count and locate the occurrences of a pattern, and extract pieces of the text.
-ghost use Rattle.std.specs.Prelude.{◌≡◌};
+ghost use Rattle.std.specs.Prelude.{◌≡◌, ◌≢◌, Some, false};
 ghost use Rattle.std.specs.Option.{option_and_then};
+ghost use Rattle.catalogue.specs.Structures.{IndexedText};
+ghost use Rattle.text_index.specs.Columns.{IsIndexable};
 ghost use Rattle.vers_c.specs.Makes.{IsMade};
 ghost use Rattle.vers_c.specs.Texts.{IsCounted, contents_count, first_pattern_positions, pattern_positions, piece, text_made};
 ghost use Rattle.vers_c.specs.Structures.{contents};
@@ -11,10 +13,33 @@ use crate::handle::VersHandle;
 use crate::kept::{Kept, count, extract, first_places, places};
 use crate::owners::{fill, fill_made, put, taken};
 use crate::status::{NO_MEMORY, OCCUPIED, REFUSED, VACANT};
-use crate::text::{is_text, is_text_of_bytes, is_text_of_u16s};
+use crate::text::narrowed;
 use catalogue::structure::Structure;
 use std::alloc::Global;
-use text_index::TextIndex;
+use text_index::{TextError, TextIndex};
+
+// Puts the index of a text into a handle, and returns a status. Precondition: the handle is empty.
+fn fill_text(alloc: Global, handle: &mut VersHandle, text: TextIndex<Global>) -> u32
+    requires { handle.old.is_built ≡ false }
+    ensures text { IsIndexable text }
+    ensures made { IsMade (Some (IndexedText text)) (contents handle.old) (contents handle.new) result }
+{
+    // Only a text that can be indexed has a column.
+    let column = text.column();
+    let _ = column.len();
+    fill(alloc, handle, Kept::Other(Structure::Text(text)))
+}
+
+// Returns the status of a build that made no index.
+fn refusal(error: TextError) -> u32
+    ensures memory { error ≡ TextError.Memory → result ≡ NO_MEMORY }
+    ensures refused { error ≢ TextError.Memory → result ≡ REFUSED }
+{
+    match error {
+        TextError::Memory => NO_MEMORY,
+        _ => REFUSED,
+    }
+}
 
 /// Builds a text index of symbols of `width` bits, with a sample every `step` positions. Refuses a width of 0
 /// or above 16, a symbol that exceeds the width, more than 2^32 - 2 symbols, and a step of 0.
@@ -31,12 +56,9 @@ pub extern "C" fn vers_text_build(
     if handle.is_built {
         return OCCUPIED;
     }
-    if step == 0 || !is_text(width, symbols) {
-        return REFUSED;
-    }
-    match TextIndex::with_step(alloc, symbols, width as u16, step) {
-        Ok(text) => fill(alloc, handle, Kept::Other(Structure::Text(text))),
-        Err(_) => NO_MEMORY,
+    match TextIndex::with_step(alloc, symbols, narrowed(width), step) {
+        Ok(text) => fill_text(alloc, handle, text),
+        Err(error) => refusal(error),
     }
 }
 
@@ -54,12 +76,9 @@ pub extern "C" fn vers_text_build_bytes(
     if handle.is_built {
         return OCCUPIED;
     }
-    if step == 0 || !is_text_of_bytes(width, bytes) {
-        return REFUSED;
-    }
-    match TextIndex::bytes_with_step(alloc, bytes, width as u16, step) {
-        Ok(text) => fill(alloc, handle, Kept::Other(Structure::Text(text))),
-        Err(_) => NO_MEMORY,
+    match TextIndex::bytes_with_step(alloc, bytes, narrowed(width), step) {
+        Ok(text) => fill_text(alloc, handle, text),
+        Err(error) => refusal(error),
     }
 }
 
@@ -77,12 +96,9 @@ pub extern "C" fn vers_text_build_u16s(
     if handle.is_built {
         return OCCUPIED;
     }
-    if step == 0 || !is_text_of_u16s(width, u16s) {
-        return REFUSED;
-    }
-    match TextIndex::u16s_with_step(alloc, u16s, width as u16, step) {
-        Ok(text) => fill(alloc, handle, Kept::Other(Structure::Text(text))),
-        Err(_) => NO_MEMORY,
+    match TextIndex::u16s_with_step(alloc, u16s, narrowed(width), step) {
+        Ok(text) => fill_text(alloc, handle, text),
+        Err(error) => refusal(error),
     }
 }
 

@@ -375,7 +375,7 @@ fn texts_of_narrow_symbols_have_their_positions() {
     assert_eq!((ask(&mut handle, 0, 0, 0, 0), ask(&mut handle, 13, 0, 0, 0)), (found(4), found(16)));
     assert_eq!(ask(&mut handle, 52, 0, 0, 0), found(3));
     assert_eq!(vers_count(Global, &mut handle, &[300]).value, 2);
-    for (width, step) in [(8, 0), (0, 2), (17, 2), (7, 2)] {
+    for (width, step) in [(8, 0), (0, 2), (17, 2), (65544, 2), (7, 2)] {
         refused(REFUSED, |it| vers_text_build_bytes(Global, &bytes, width, step, it));
     }
     refused(REFUSED, |it| vers_text_build_bytes(Global, &[127, 128], 7, 2, it));
@@ -567,7 +567,7 @@ fn texts_answer_as_their_symbols() {
             assert_eq!(vers_extract(Global, &mut handle, from, to, &mut into), OCCUPIED);
         }
     }
-    for (width, step) in [(2, 0), (0, 5), (17, 5), (1, 5)] {
+    for (width, step) in [(2, 0), (0, 5), (17, 5), (65538, 5), (1, 5)] {
         refused(REFUSED, |it| vers_text_build(Global, &symbols, width, step, it));
     }
     let mut other = made(|it| vers_sorted_build(Global, &[1], it));

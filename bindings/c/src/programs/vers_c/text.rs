@@ -1,38 +1,13 @@
-//! Tests of the symbols of texts, and positions as plain numbers.
+//! Widths of the symbols of texts, and positions as plain numbers.
 
 use crate::rattle::prelude::*;
 
 use crate::rattle::AllocError;
 use crate::rattle::Global;
-use crate::proved::text_index::MAX_LEN;
-use crate::proved::vers_wavelet::wavelet::Integer;
 
-// Returns the least number that exceeds `width` bits.
-fn symbol_limit(width: u32) -> u64 {
-    1 << width
-}
-
-// Returns true if each number is below a limit.
-fn are_below<N: Integer>(numbers: &[N], limit: u64) -> bool {
-    numbers
-        .iter()
-        .all(|number| (number.number() as u64) < limit)
-}
-
-/// Returns true if the symbols and their width make a text: the width is from 1 to 16, each symbol fits in it,
-/// and there are not too many symbols.
-pub fn is_text(width: u32, symbols: &[u64]) -> bool {
-    1 <= width && width <= 16 && symbols.len() <= MAX_LEN && are_below(symbols, symbol_limit(width))
-}
-
-/// Returns what `is_text` does, of bytes.
-pub fn is_text_of_bytes(width: u32, bytes: &[u8]) -> bool {
-    1 <= width && width <= 16 && bytes.len() <= MAX_LEN && are_below(bytes, symbol_limit(width))
-}
-
-/// Returns what `is_text` does, of numbers in 16 bits each.
-pub fn is_text_of_u16s(width: u32, u16s: &[u16]) -> bool {
-    1 <= width && width <= 16 && u16s.len() <= MAX_LEN && are_below(u16s, symbol_limit(width))
+/// Returns a width in 16 bits: the same up to 16, and otherwise 17, which no text has either.
+pub fn narrowed(width: u32) -> u16 {
+    width.min(17) as u16
 }
 
 /// Returns positions as plain numbers. Errors: `AllocError` if the allocator refuses a request.

@@ -8,10 +8,26 @@ use crate::programs::vers_c::handle::VersHandle;
 use crate::programs::vers_c::kept::{Kept, count, extract, first_places, places};
 use crate::programs::vers_c::owners::{fill, fill_made, put, taken};
 use crate::programs::vers_c::status::{NO_MEMORY, OCCUPIED, REFUSED, VACANT};
-use crate::programs::vers_c::text::{is_text, is_text_of_bytes, is_text_of_u16s};
+use crate::programs::vers_c::text::narrowed;
 use crate::programs::catalogue::structure::Structure;
 use crate::rattle::Global;
-use crate::proved::text_index::TextIndex;
+use crate::proved::text_index::{TextError, TextIndex};
+
+// Puts the index of a text into a handle, and returns a status. Precondition: the handle is empty.
+fn fill_text(alloc: Global, handle: &mut VersHandle, text: TextIndex<Global>) -> u32 {
+    // Only a text that can be indexed has a column.
+    let column = text.column();
+    let _ = column.len();
+    fill(alloc, handle, Kept::Other(Structure::Text(text)))
+}
+
+// Returns the status of a build that made no index.
+fn refusal(error: TextError) -> u32 {
+    match error {
+        TextError::Memory => NO_MEMORY,
+        _ => REFUSED,
+    }
+}
 
 /// Builds a text index of symbols of `width` bits, with a sample every `step` positions. Refuses a width of 0
 /// or above 16, a symbol that exceeds the width, more than 2^32 - 2 symbols, and a step of 0.
@@ -25,12 +41,9 @@ pub fn vers_text_build(
     if handle.is_built {
         return OCCUPIED;
     }
-    if step == 0 || !is_text(width, symbols) {
-        return REFUSED;
-    }
-    match TextIndex::with_step(alloc, symbols, width as u16, step) {
-        Ok(text) => fill(alloc, handle, Kept::Other(Structure::Text(text))),
-        Err(_) => NO_MEMORY,
+    match TextIndex::with_step(alloc, symbols, narrowed(width), step) {
+        Ok(text) => fill_text(alloc, handle, text),
+        Err(error) => refusal(error),
     }
 }
 
@@ -45,12 +58,9 @@ pub fn vers_text_build_bytes(
     if handle.is_built {
         return OCCUPIED;
     }
-    if step == 0 || !is_text_of_bytes(width, bytes) {
-        return REFUSED;
-    }
-    match TextIndex::bytes_with_step(alloc, bytes, width as u16, step) {
-        Ok(text) => fill(alloc, handle, Kept::Other(Structure::Text(text))),
-        Err(_) => NO_MEMORY,
+    match TextIndex::bytes_with_step(alloc, bytes, narrowed(width), step) {
+        Ok(text) => fill_text(alloc, handle, text),
+        Err(error) => refusal(error),
     }
 }
 
@@ -65,12 +75,9 @@ pub fn vers_text_build_u16s(
     if handle.is_built {
         return OCCUPIED;
     }
-    if step == 0 || !is_text_of_u16s(width, u16s) {
-        return REFUSED;
-    }
-    match TextIndex::u16s_with_step(alloc, u16s, width as u16, step) {
-        Ok(text) => fill(alloc, handle, Kept::Other(Structure::Text(text))),
-        Err(_) => NO_MEMORY,
+    match TextIndex::u16s_with_step(alloc, u16s, narrowed(width), step) {
+        Ok(text) => fill_text(alloc, handle, text),
+        Err(error) => refusal(error),
     }
 }
 

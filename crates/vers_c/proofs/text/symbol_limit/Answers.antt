@@ -1,5 +1,0 @@
-use Rattle.vers_c.proofs.Names.{arith, one_shl}
-use Rattle.vers_c.proofs.text.symbol_limit.Goals as goal
-
-pub returns : goal.returns
-returns c = one_shl c.args.width 64 (omega (arith, c.requires))
