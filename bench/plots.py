@@ -1,8 +1,8 @@
 #!/usr/bin/env python3
 """Draws the tables of docs/PERFORMANCE.md by matplotlib (Debian's package `python3-matplotlib`), and measures nothing.
 
-docs/speed.svg has a bar for each figure that `tools/pages.py` reads there, and docs/growth.svg a line for each operation
-of the same tables, which `growth` printed.
+docs/speed.svg has a bar for each figure that `tools/pages.py` reads there, and docs/growth.svg a line for each
+operation of the same tables, which `growth` printed.
 """
 import os
 import sys

@@ -82,9 +82,9 @@ LEFT_OUT = {
         EliasFanoVec.from_numbers InvertedIndex.from_source TextIndex.from_* TextIndex.*_with_step""",
     "Combined documents of terms are plain numbers.": "InvertedIndex.*n_numbers InvertedIndex.difference_numbers",
     "They are for saved forms, which C, C++ and Python load and save as a whole.":
-        """TextIndex.column TextIndex.whole_row TextIndex.kept_len TextIndex.kept_row WaveletMatrix.level
-        EliasFanoVec.ends EliasFanoVec.low_parts EliasFanoVec.high_parts EliasFanoVec.from_parts SparseRSVec.ones
-        InvertedIndex.pair_numbers InvertedIndex.from_numbers""",
+        """TextIndex.column TextIndex.whole_row TextIndex.kept_len TextIndex.kept_row TextIndex.kept_rows
+        WaveletMatrix.level EliasFanoVec.ends EliasFanoVec.low_parts EliasFanoVec.high_parts EliasFanoVec.from_parts
+        SparseRSVec.ones InvertedIndex.pair_numbers InvertedIndex.from_numbers""",
     "Symbols are numbers of at most 64 bits instead of lists of bits.":
         """WaveletMatrix.bit_len WaveletMatrix.from_* WaveletMatrix.get_value WaveletMatrix.get_sorted
         WaveletMatrix.iter WaveletMatrix.iter_sorted WaveletMatrix.into_iter WaveletMatrix.into_iter_sorted

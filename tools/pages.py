@@ -4,8 +4,8 @@
 CALLS lists the calls that `cargo doc` describes under the same names by the bounds on their reads, and each other call
 as it is declared, with what this doesn't say.
 
-The figures are those of PERFORMANCE's tables of times by size, in rows whose first cell is a call, such as `rank1`, or a
-call and what its time is for, such as "`iter1`, a position".
+The figures are those of PERFORMANCE's tables of times by size, in rows whose first cell is a call, such as `rank1`, or
+a call and what its time is for, such as "`iter1`, a position".
 
 It also lists the names that the facade exports, and the calls of its types, that are neither in the table of our own
 names in docs/DIFFERENCES.md nor among those of vers-vecs (tools/original_names.txt), and the names in the first that

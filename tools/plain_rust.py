@@ -48,8 +48,8 @@ BY_HAND = {
     "vers_c/loose.rs": "pub use crate::rattle::owners::Loose;\n",
 }
 
-# Functions that some processors have as an instruction. A call goes through a function of the support module, which takes
-# the proved one too.
+# Functions that some processors have as an instruction. A call goes through a function of the support module, which
+# takes the proved one too.
 INSTRUCTIONS = {"vers_rank/word.rs": ("position_of_one", )}
 
 # Tests that take minutes without optimization: cargo leaves them out by default. The gate runs them in Rattle.
