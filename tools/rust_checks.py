@@ -27,7 +27,7 @@ REGISTRY = "/usr/share/cargo/registry"
 EXAMPLES = ("search_engine", "genome_reads", "quantiles", "xml_tree", "dictionary_column", "ip_ranges")
 FEATURES = "unchecked,simd,mem_dbg,bp_u16_lookup"
 # By default a release has no debug assertions, with which a tree stops at a position without a node.
-RELEASED = "--config profile.dev.debug-assertions=false"
+RELEASED = "--config profile.test.debug-assertions=false"
 ARM = "aarch64-unknown-linux-gnu"
 # Processors with the instruction that the support module calls.
 NEWER = "x86-64-v3"
