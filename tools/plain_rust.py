@@ -469,8 +469,8 @@ class Writer:
             text = re.sub(r"(?m)^mod ", "pub mod ", text)
         for name in INSTRUCTIONS.get(self.name, ()):
             text, count = re.subn(rf"(?<!fn )\b{name}\(", f"{HERE}instructions::{name}({name}, ", text)
-            if count != 1:
-                raise Refused(f"{self.name}: {count} calls of {name}")
+            if not count:
+                raise Refused(f"{self.name}: no call of {name}")
         for test in SLOW.get(self.name, ()):
             text, count = re.subn(rf"(?m)^#\[test\]\n(?=fn {test}\()",
                                   "#[test]\n#[ignore = \"slow without optimization\"]\n", text)
