@@ -1,14 +1,12 @@
 //! Indexes of FASTA files that are saved to a place, of which each call fails in turn, and each request for memory is
 //! refused.
-use crate::indexes::Unreadable;
+use crate::indexes::{Heap, Unreadable, indexed_if};
 use crate::places::holding;
 use std::alloc::Global;
 use std::test::Fail;
-use test_alloc::{Ending, Refusing, done_if, each_refused, lines_of, out_of_memory_if, wrong_row};
+use test_alloc::{Ending, each_refused, lines_of, out_of_memory_if, wrong_row};
 use vers_cli::Device;
 use vers_files::{SaveFault, WrongLine, ask_text, index_fasta_to, index_to};
-
-type Heap = Refusing<Global>;
 
 // A file of two sequences, and its text.
 const FILE: &[u8] = b">ch one\nAC\nGTA\n>d\nGTAC\n";
@@ -154,7 +152,7 @@ fn tried_indexing(alloc: Global, index: &[u8], heap: &Heap) -> Ending {
     let result = index_fasta_to(heap, &mut file, &mut place);
     let holds = |it: &[u8]| place.bytes.as_slice() == it && place.settled.as_slice() == it;
     match result {
-        Ok(Ok(())) => done_if(holds(index) && !place.is_begun),
+        Ok(Ok(())) => indexed_if(heap, holds(index) && !place.is_begun),
         Ok(Err(SaveFault::OutOfMemory)) => out_of_memory_if(holds(OLD) && !place.is_begun),
         _ => Ending::Wrong,
     }

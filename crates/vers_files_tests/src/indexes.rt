@@ -11,7 +11,17 @@ use test_alloc::{Ending, Refusing, done_if, each_refused, out_of_memory_if};
 use vers_files::{SaveFault, index_to};
 
 /// An allocator of which requests are refused.
-type Heap = Refusing<Global>;
+pub type Heap = Refusing<Global>;
+
+/// Returns the ending of an index that was put into place. A request may have been refused: a text is saved without the
+/// list of its sampled rows too.
+pub fn indexed_if(heap: &Heap, is_right: bool) -> Ending {
+    if heap.refused() > 0 {
+        out_of_memory_if(is_right)
+    } else {
+        done_if(is_right)
+    }
+}
 
 // Returns true if an index whose call with this number fails, if it gets that far, leaves the place unchanged or
 // replaces it completely, leaves no temporary file, and succeeds only if the place is settled.
@@ -90,7 +100,7 @@ fn tried_indexing(alloc: Global, heap: &Heap) -> Ending {
     let result = index_to(heap, &mut file, &mut place);
     let holds = |it: &[u8]| place.bytes.as_slice() == it && place.settled.as_slice() == it;
     match result {
-        Ok(()) => done_if(holds(index.as_slice()) && !place.is_begun),
+        Ok(()) => indexed_if(heap, holds(index.as_slice()) && !place.is_begun),
         Err(SaveFault::OutOfMemory) => out_of_memory_if(holds(b"old") && !place.is_begun),
         Err(_) => Ending::Wrong,
     }
