@@ -1,5 +1,5 @@
 -- Low parts that are gathered in a word before they are appended.
-use Rattle.vers_sorted.proofs.Names.{◌≡◌, ℕ, ◌+◌, ◌-◌, ◌*◌, ◌/◌, ◌%◌, ◌^◌, ◌<◌, ◌≤◌, Bool, List, [], ◌++◌, length, sym, ap, ◌∙◌, append_assoc, arith, bit_and, bit_or, mul-mod_left, pow-le-pow_right, length-append, and_mask, div-mul-add, mod-mul-add, mod-pow-add, mod_below, mod_low, one_shl, or_lt, pow_pos, shl-shr, shl_below, shl_whole, shr_below, length-low_bits, low_bits-add, low_bits_of_rest, low_bits}
+use Rattle.vers_sorted.proofs.Names.{◌≡◌, ℕ, ◌+◌, ◌-◌, ◌*◌, ◌/◌, ◌%◌, ◌^◌, ◌<◌, ◌≤◌, Bool, List, [], ◌∷◌, ◌++◌, length, refl, sym, ap, ◌∙◌, append_assoc, append-nil, flat_map-append, arith, bit_and, bit_or, mul-mod_left, pow-le-pow_right, length-append, and_mask, div-mul-add, mod-mul-add, mod-pow-add, mod_below, mod_low, one_shl, or_lt, pow_pos, shl-shr, shl_below, shl_whole, shr_below, length-low_bits, low_bits-add, low_bits_of_rest, length-packed, low_bits, pack}
 use Rattle.std.specs.Int.Bits.{or_shifted_r}
 
 -- the lowest digits of the lowest digits
@@ -48,13 +48,30 @@ goes_on part n w narrow few full = grind (arith, shr_below)
 pub low_digits : (v w : ℕ) → w < 64 → bit_and v (1 * 2 ^ w % 18446744073709551616 - 1) ≡ v % 2 ^ w
 low_digits v w narrow = ap (λ m. bit_and v (m - 1)) (one_shl w 64 narrow) ∙ and_mask v w
 
+-- a full word is put behind the others
+pub pack_more : (ws : List ℕ) (word : ℕ) → pack (ws ++ word ∷ []) 64 ≡ pack ws 64 ++ low_bits word 64
+pack_more ws word = rw (flat_map-append (λ w. low_bits w 64) ws (word ∷ []), append-nil (low_bits word 64)) refl
+
+pub fills_words : (ws new : List ℕ) (word v n w : ℕ) → word < 2 ^ n → n < 64 → 64 ≤ n + w
+    → new ≡ ws ++ bit_or word (v % 2 ^ w * 2 ^ n % 18446744073709551616) ∷ []
+    → pack new 64 ++ low_bits (v % 2 ^ w / 2 ^ (64 - n)) (n + w - 64) ≡ (pack ws 64 ++ low_bits word n) ++ low_bits v w
+fills_words ws new word v n w small few full e =
+    fills (pack ws 64) (pack new 64) word v n w small few full
+    (ap (λ l. pack l 64) e ∙ pack_more ws (bit_or word (v % 2 ^ w * 2 ^ n % 18446744073709551616)))
+
 -- nothing is gathered at first
-pub none_gathered : (l first : List Bool) → l ≡ [] → [] ≡ first → l ++ low_bits 0 0 ≡ first
+pub none_gathered : (words : List ℕ) (first : List Bool) → words ≡ [] → [] ≡ first → pack words 64 ++ low_bits 0 0 ≡ first
 unfolding low_bits
-none_gathered l first none e = rw none e
+none_gathered words first none e = rw none e
 
 -- how long the list and what is gathered are together
 pub so_many : (l all : List Bool) (word n : ℕ) → l ++ low_bits word n ≡ all → length l + n ≡ length all
 so_many l all word n e = omega (arith, ap length e, length-append l (low_bits word n), length-low_bits word n)
 
-pub ruleset gathers = (stays_small, goes_on, low_digits, stays, fills)
+-- there is room for another word within the words that all parts take
+pub room_for_word : (words : List ℕ) (n w total capacity : ℕ) → length (pack words 64) + n + w ≤ total → 64 ≤ n + w → (total + 63) / 64 ≤ capacity → length words < capacity
+room_for_word words n w total capacity fits full room =
+    let long : 64 * length words ≡ length (pack words 64) = omega (arith, length-packed (λ v. v) 64 words) in
+    omega (arith, long, fits, full, room)
+
+pub ruleset gathers = (stays_small, goes_on, low_digits, stays, fills_words)

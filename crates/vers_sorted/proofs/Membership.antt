@@ -1,5 +1,5 @@
 -- Whether a number is an element of a list.
-use Rattle.vers_sorted.proofs.Names.{◌≡◌, ℕ, ◌<◌, Bool, true, false, List, [], ◌∷◌, ◌++◌, length, get_or, refl, ap, ◌∙◌, arith, eqb, eq-eqb, eqb-true, ne_eqb, get_or_default, is_element, rules}
+use Rattle.vers_sorted.proofs.Names.{◌≡◌, ℕ, ◌<◌, true, false, List, [], ◌∷◌, ◌++◌, length, get_or, refl, ap, ◌∙◌, arith, eqb, eq-eqb, eqb-true, ne_eqb, get_or_default, is_element, rules}
 use Rattle.std.specs.Prelude.{◌||◌}
 use Rattle.std.proofs.Math.Bool.{or-false}
 use Rattle.std.proofs.lemmas.List.Folds.{list_any-from_Any, Any-from_list_any, list_any_none, list_any-append}

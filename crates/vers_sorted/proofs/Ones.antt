@@ -1,5 +1,5 @@
 -- The bits whose ones are at given positions: their counts, their positions, and how they come about.
-use Rattle.vers_sorted.proofs.Names.{◌≡◌, ℕ, zero, suc, ◌+◌, ◌-◌, ◌<◌, ◌≤◌, Bool, true, false, ◌⊎◌, List, [], ◌∷◌, ◌++◌, length, get_or, refl, sym, ap, ◌∙◌, arith, inl, inr, eqb, set, slice_index, map, IsNonDecreasing, IsStrictlyIncreasing, cases_lt, cases_Bool, ne_eqb, eq-eqb, eqb-true, same_number_lists, same_lists, get_or-set_same, get_or-set_other, length-set, get_or-map, length-map, length-map-range_with_len, map-id, get_or-map-range_with_len, get_or_default, is_bit, count, positions, count_none, count_up, count_more_yes, count_more_no, select_at, length-positions, select_is_position, select_up, IsPosition, below, is_element, rules, nat_tests, select, ones_at}
+use Rattle.vers_sorted.proofs.Names.{◌≡◌, ℕ, zero, suc, ◌+◌, ◌-◌, ◌<◌, ◌≤◌, Bool, true, false, ◌⊎◌, List, [], ◌∷◌, ◌++◌, length, get_or, refl, sym, ap, ◌∙◌, arith, inl, inr, set, slice_index, map, IsNonDecreasing, IsStrictlyIncreasing, cases_lt, cases_Bool, same_number_lists, same_lists, get_or-set_same, get_or-set_other, length-set, get_or-map, length-map, length-map-range_with_len, map-id, get_or-map-range_with_len, get_or_default, is_bit, count, positions, count_none, count_up, count_more_yes, count_more_no, select_at, length-positions, select_is_position, select_up, IsPosition, below, is_element, nat_tests, select, ones_at}
 use Rattle.std.proofs.lemmas.List.Kept.{AllPairs-from_increasing}
 use Rattle.vers_sorted.proofs.Below.{below_le, below_at, below_before, below_after, none_below, all_below}
 use Rattle.vers_sorted.proofs.Membership.{element_at, element_more, element_position, not_element}

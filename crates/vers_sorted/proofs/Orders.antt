@@ -1,5 +1,6 @@
 -- Numbers that are in an order, each to the next.
-use Rattle.vers_sorted.proofs.Names.{◌≡◌, ℕ, zero, suc, ◌<◌, Bool, true, false, List, [], ◌∷◌, length, get_or, nat_le, nat_lt, refl, sym, arith, add-one, ◌↔◌, All, IsTrue, IsAllAdjacentAnswer, list_all, IsNonDecreasing, IsStrictlyIncreasing, leb-true, le-leb, ltb-true, lt-ltb, get_or_default, and_parts, IsNonDecreasingBy-from_all_adjacent, AllPass-from_list_all, list_all-from_AllPass, each_next}
+use Rattle.vers_sorted.proofs.Names.{◌≡◌, ℕ, zero, suc, ◌<◌, Bool, true, false, List, [], ◌∷◌, length, get_or, nat_le, nat_lt, refl, sym, ◌∙◌, arith, add-one, ◌↔◌, All, IsTrue, list_all, IsNonDecreasing, IsStrictlyIncreasing, leb-true, le-leb, ltb-true, lt-ltb, get_or_default, and_parts, IsNonDecreasingBy-from_all_adjacent, AllPass-from_list_all, list_all-from_AllPass, each_next}
+use Rattle.std.specs.Prelude.{◌≤◌, nat_eq}
 use Rattle.std.proofs.Math.Bool.{and-false}
 
 -- number k and the next
@@ -20,10 +21,15 @@ each_next-false order (x ∷ []) k l h = absurd (omega arith)
 each_next-false order (x ∷ y ∷ xs) zero l h = rw h refl
 each_next-false order (x ∷ y ∷ xs) (suc k) l h = rw (each_next-false order (y ∷ xs) k (omega arith) h) (and-false _)
 
--- what a test of all neighbours answers
-pub each_next-answer : (order : ℕ → ℕ → Bool) (xs : List ℕ) (r : Bool) → IsAllAdjacentAnswer (λ x y b. b ≡ order x y) xs r → r ≡ each_next order xs
-each_next-answer order xs true h = grind (arith, each_next-true, add-one)
-each_next-answer order xs false h = sym (each_next-false order xs h.0 (omega (arith, h.1)) (rw (← add-one h.0) (sym (h.2 0))))
+-- whether no pair of n + 1 numbers is out of order, by a number of faults
+pub no_faults : (order : ℕ → ℕ → Bool) (xs : List ℕ) (n faults : ℕ) → length xs ≤ suc n
+    → (faults ≡ 0 → (k : ℕ) → k < n → pair_at order xs k ≡ true) → (0 < faults → (k : ℕ) × (suc k < length xs) × (pair_at order xs k ≡ false))
+    → nat_eq faults 0 ≡ each_next order xs
+no_faults order xs n zero long none some = sym (each_next-true order xs (λ k l. none refl k (omega (arith, l, long))))
+no_faults order xs n (suc f) long none some =
+    let at = some (omega arith) in
+    let many : nat_eq (suc f) 0 ≡ false = grind arith in
+    many ∙ sym (each_next-false order xs at.0 at.1 at.2)
 
 -- two neighbours, if all are in the order
 pub each_next-at : (order : ℕ → ℕ → Bool) (xs : List ℕ) (k : ℕ) → suc k < length xs → each_next order xs ≡ true → pair_at order xs k ≡ true

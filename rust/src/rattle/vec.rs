@@ -149,9 +149,11 @@ impl<T, A: Allocator> Vec<T, A> {
         Ok(())
     }
 
-    /// Puts an item behind the others, which there is room for.
+    /// Puts an item behind the others, which there is room for. With the test the compiler leaves out a growth, whose call
+    /// would cost a loop its registers.
     #[inline(always)]
     pub fn push_reserved(&mut self, item: T) {
+        assert!(self.items.len() < self.items.capacity());
         self.items.push(item);
     }
 

@@ -159,12 +159,18 @@ impl<A: Allocator + Copy> BitVec<A> {
     }
 
     /// Appends the 64 bits of a number, least significant first. Errors as for `append_bits`.
+    #[inline(always)]
+    #[tactic(auto, using(crate::proofs::Growing::growth))]
     pub fn append_word(&mut self, word: u64) -> Result<(), GrowError>
         ensures grown { OnOk result (self.new ≡ self.old ++ low_bits word 64) }
         ensures kept { OnErr result (self.new ≡ self.old) }
         ensures too_long { (result ≡ Err GrowError.TooLong) ↔ (MAX_LEN < length self.old + 64) }
     {
-        self.append_bits(word, 64)
+        if self.len() > MAX_LEN - 64 {
+            return Err(GrowError::TooLong);
+        }
+        self.append_number(word, 64)?;
+        Ok(())
     }
 
     /// Appends the lowest bit of a number. Errors as for `append`.

@@ -1,45 +1,46 @@
-//! Low parts, one after another: the last of them are gathered in a word, which is appended once it is full.
-ghost use Rattle.std.specs.Prelude.{◌≡◌, ◌+◌, ◌<◌, ◌≤◌, ◌++◌, length, IfOk};
-ghost use Rattle.vers_bits.specs.Bits.{low_bits};
+//! Low parts, one after another: the last of them are gathered in a word, which is put behind the others once full.
+ghost use Rattle.std.specs.Prelude.{◌≡◌, ◌+◌, ◌<◌, ◌≤◌, ◌++◌, length, vec_len, vec_capacity};
+ghost use Rattle.vers_bits.specs.Bits.{low_bits, pack};
 ghost use Rattle.vers_sorted.specs.inside.Gathered.{IsGathered};
 
-use crate::elias_fano::make::known_to_fit;
-use std::alloc::{AllocError, Allocator};
-use vers_bits::bit_vec::{BitVec, MAX_LEN};
+use std::alloc::Allocator;
 
-// Bits still to be appended to a list: the lowest `len` digits of a word.
+// Bits that don't fill a word yet: the lowest `len` digits of a word.
 #[derive(Clone, Copy, Drop)]
 pub(super) struct Gathered {
     pub(super) word: u64,
     pub(super) len: usize,
 }
 
-// Appends the `width` lowest digits of a number, and returns the bits that are still gathered. A full word is
-// appended to the list.
+// Gathers the `width` lowest digits of a number, and returns the bits that don't fill a word yet. A full word is put
+// behind the others, for which there is room: a request in the loop over the numbers would take its registers.
 #[inline(always)]
 #[tactic(auto, using(crate::proofs::Gathers::gathers))]
-pub(super) fn add_part<A: Allocator + Copy>(
-    low: &mut BitVec<A>,
+pub(super) fn add_part<A: Allocator>(
+    words: &mut Vec<u64, A>,
     gathered: Gathered,
     number: u64,
     width: usize,
-) -> Result<Gathered, AllocError>
+) -> Gathered
     requires narrow { width < 64 }
     requires gathered { IsGathered gathered }
-    requires short { length low.old + gathered.len + width ≤ MAX_LEN }
-    ensures gathered { IfOk result (λ more. IsGathered more) }
-    ensures added { IfOk result (λ more. low.new ++ low_bits more.word more.len
-        ≡ (low.old ++ low_bits gathered.word gathered.len) ++ low_bits number width) }
+    requires len { vec_len words.old ≡ length words.old.items }
+    requires room { 64 ≤ gathered.len + width → vec_len words.old < vec_capacity words.old }
+    ensures gathered { IsGathered result }
+    ensures added { pack words.new.items 64 ++ low_bits result.word result.len
+        ≡ (pack words.old.items 64 ++ low_bits gathered.word gathered.len) ++ low_bits number width }
+    ensures len { vec_len words.new ≡ length words.new.items }
+    ensures capacity { vec_capacity words.new ≡ vec_capacity words.old }
 {
     let part = number & ((1 << width) - 1);
     let word = gathered.word | (part << gathered.len);
     let len = gathered.len + width;
     if len < 64 {
-        return Ok(Gathered { word, len });
+        return Gathered { word, len };
     }
-    known_to_fit(low.append_word(word))?;
-    Ok(Gathered {
+    words.push_reserved(word);
+    Gathered {
         word: part >> (64 - gathered.len),
         len: len - 64,
-    })
+    }
 }

@@ -55,7 +55,8 @@ impl<A: Allocator + Copy> EliasFanoVec<A> {
     }
 
     /// Returns the list of `len` numbers that are read one by one; `last` is the last one, or 0 if there are
-    /// none. Precondition: they ascend. Errors: `AllocError` only if the allocator refuses a request.
+    /// none. Precondition: they ascend, and `len` is their number and at most `MAX_LEN`. Errors: `AllocError`
+    /// only if the allocator refuses a request.
     #[tactic(auto, using(crate::proofs::Makes::low_width_is, crate::proofs::Packed::packed_as))]
     pub fn from_numbers<N: Numbers>(
         alloc: A,
@@ -182,16 +183,17 @@ fn parts_of<A: Allocator + Copy, N: Numbers>(
 {
     let high_len = high_length_of(len, (last - first) >> width);
     let mut high = known_to_fit(BitVec::from_zeros(alloc, high_len))?;
-    let mut low = known_to_fit(BitVec::with_capacity(alloc, len * width))?;
+    let mut words = Vec::with_capacity(alloc, (len * width).div_ceil(64))?;
     let mut gathered = Gathered { word: 0, len: 0 };
     let mut i = 0usize;
     while let Some(number) = numbers.next() {
         let _ = high.len();
         let above = number - first;
         high.set_unchecked((above >> width) as usize + i + 1, 1);
-        gathered = add_part(&mut low, gathered, above, width)?;
+        gathered = add_part(&mut words, gathered, above, width);
         i += 1;
     }
+    let mut low = known_to_fit(BitVec::from_vec(words))?;
     known_to_fit(low.append_bits(gathered.word, gathered.len))?;
     Ok(Parts { high, low })
 }

@@ -103,8 +103,13 @@ impl<A: Allocator + Copy> BitVec<A> {
     }
 
     /// Appends the 64 bits of a number, least significant first. Errors as for `append_bits`.
+    #[inline(always)]
     pub fn append_word(&mut self, word: u64) -> Result<(), GrowError> {
-        self.append_bits(word, 64)
+        if self.len() > MAX_LEN - 64 {
+            return Err(GrowError::TooLong);
+        }
+        self.append_number(word, 64)?;
+        Ok(())
     }
 
     /// Appends the lowest bit of a number. Errors as for `append`.

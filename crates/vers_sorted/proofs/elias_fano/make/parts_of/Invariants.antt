@@ -1,4 +1,5 @@
-use Rattle.vers_sorted.proofs.Names.{◌≡◌, ◌≤◌, ◌++◌, length, drop, low_bits, first_high_parts, first_low_parts}
+use Rattle.std.specs.Prelude.{vec_len, vec_capacity}
+use Rattle.vers_sorted.proofs.Names.{◌≡◌, ◌+◌, ◌*◌, ◌/◌, ◌≤◌, ◌++◌, length, drop, low_bits, pack, first_high_parts, first_low_parts}
 use Rattle.vers_sorted.specs.inside.Gathered.{IsGathered}
 use Rattle.vers_sorted.proofs.elias_fano.make.parts_of.Given as goal
 
@@ -8,7 +9,9 @@ invariant-loop-number g l = record {
   within : l.i ≤ length (g.N.Numbers.left l.fn.numbers);
   high : l.high ≡ first_high_parts (g.N.Numbers.left l.fn.numbers) l.i;
   gathered : IsGathered l.gathered;
-  low : l.low ++ low_bits l.gathered.word l.gathered.len ≡ first_low_parts (g.N.Numbers.left l.fn.numbers) l.i;
+  low : pack l.words.items 64 ++ low_bits l.gathered.word l.gathered.len ≡ first_low_parts (g.N.Numbers.left l.fn.numbers) l.i;
+  len : vec_len l.words ≡ length l.words.items;
+  capacity : (l.fn.len * l.fn.width + 63) / 64 ≤ vec_capacity l.words;
 }
 
 abbrev pub decreases-loop-number : goal.decreases-loop-number

@@ -1,9 +1,0 @@
-use Rattle.vers_sorted.proofs.Names.{rules, nat_le, answers_always}
-use Rattle.vers_sorted.proofs.Orders.{each_next-answer, ascending_is}
-use Rattle.vers_sorted.proofs.order.is_ascending.Goals as goal
-
-pub returns-clause-each : goal.returns-clause-each
-returns-clause-each c = each_next-answer nat_le _ _ (c.is_sorted_by.ensures.cases nat_le (search (rules, answers_always)))
-
-pub returns-clause-all : goal.returns-clause-all
-returns-clause-all c = ascending_is _ _ (each_next-answer nat_le _ _ (c.is_sorted_by.ensures.cases nat_le (search (rules, answers_always))))
