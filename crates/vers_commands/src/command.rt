@@ -67,17 +67,16 @@ pub fn command_of(words: &[String]) -> Option<Command<'_>> {
     }
 }
 
-/// Returns the arguments that a command takes, for those that name none.
-pub fn usage_of(words: &[String]) -> &'static str {
-    match words {
-        [_, word, ..] => match word.as_str() {
-            "save" => "save takes FILE",
-            "ask" => "ask takes FILE",
-            "show" => "show takes FILE",
-            "text" => "text takes nothing, FILE, or index [--fasta] FILE INDEX",
-            _ => "unknown arguments",
-        },
-        _ => "unknown arguments",
+/// Returns the arguments that a command takes. `None` if there is no such command.
+pub fn usage_of(word: &str) -> Option<&'static str> {
+    match word {
+        "save" => Some("save takes FILE"),
+        "ask" => Some("ask takes FILE"),
+        "show" => Some("show takes FILE"),
+        "text" => Some("text takes nothing, FILE, or index [--fasta] FILE INDEX"),
+        "--help" | "-h" => Some("--help takes nothing"),
+        "--version" => Some("--version takes nothing"),
+        _ => None,
     }
 }
 

@@ -211,7 +211,7 @@ fn why_not_saved(fault: SaveFault) -> &'static str {
         SaveFault::Read => "the file can't be read",
         SaveFault::Write => "write failed",
         SaveFault::Begin =>
-            "the file can't be created: its folder is missing, or another save has begun or was interrupted",
+            "the file can't be created: its folder is missing or can't be written, or another save has begun or was interrupted",
         SaveFault::Sync => "the file can't be synced",
         SaveFault::Put => "the file can't be renamed",
         SaveFault::Settle => "the file is replaced, but its folder can't be synced",

@@ -25,12 +25,19 @@ pub fn main() -> ExitCode {
     };
     match command_of(words.as_slice()) {
         Some(command) => run(&rt, command),
-        None => {
-            let usage = usage_of(words.as_slice());
-            let _ = crate::print_error!("vers: {usage}; vers --help lists the commands");
-            ExitCode::from(2)
-        }
+        None => refuse(&rt, words.as_slice()),
     }
+}
+
+// Prints what the command of some arguments takes, or that there is no such command.
+fn refuse(rt: &HostRuntime, words: &[String]) -> ExitCode {
+    if let [_, word, ..] = words {
+        let _ = match usage_of(word.as_str()) {
+            Some(usage) => crate::print_error!("vers: {usage}; vers --help lists the commands"),
+            None => crate::print_error!("vers: unknown command {word:?}; vers --help lists the commands"),
+        };
+    }
+    ExitCode::from(2)
 }
 
 fn run(rt: &HostRuntime, command: Command<'_>) -> ExitCode {
