@@ -61,6 +61,11 @@ impl Table {
             assert_eq!(our_sum, their_sum, "{name}");
             least = [least[0].min(middle - start), least[1].min(end - middle)];
         }
+        self.put(name, count, least);
+    }
+
+    /// Adds a cell of two times of some items.
+    fn put(&mut self, name: &'static str, count: usize, least: [Duration; 2]) {
         let [here, there] = least.map(|it| short(it.as_secs_f64() * 1e9 / count as f64));
         let ratio = least[0].as_secs_f64() / least[1].as_secs_f64();
         let cell = format!("{here}, {there} ({ratio:.2})");
@@ -70,9 +75,19 @@ impl Table {
         }
     }
 
-    /// Adds the cell of a build, whose result is dropped within the time.
-    fn build<T, U>(&mut self, name: &'static str, count: usize, ours: impl Fn() -> T, theirs: impl Fn() -> U) {
-        self.add(name, FEW, count, || drop_counted(ours()), || drop_counted(theirs()));
+    /// Adds the cell of a build. Its input is made before the time, and its result is dropped after it.
+    fn build<A, B, T, U>(
+        &mut self,
+        name: &'static str,
+        count: usize,
+        ours: (impl Fn() -> A, impl Fn(A) -> T),
+        theirs: (impl Fn() -> B, impl Fn(B) -> U),
+    ) {
+        let mut least = [Duration::MAX; 2];
+        for _ in 0..FEW {
+            least = [least[0].min(build_time(&ours)), least[1].min(build_time(&theirs))];
+        }
+        self.put(name, count, least);
     }
 
     /// Adds the cell of a walk over the first items.
@@ -92,9 +107,14 @@ impl Table {
     }
 }
 
-fn drop_counted<T>(made: T) -> u64 {
-    drop(std::hint::black_box(made));
-    0
+/// Returns the time of a build, whose input is made before.
+fn build_time<A, T>((input, build): &(impl Fn() -> A, impl Fn(A) -> T)) -> Duration {
+    let input = input();
+    let start = processor_time();
+    let made = std::hint::black_box(build(input));
+    let time = processor_time() - start;
+    drop(made);
+    time
 }
 
 /// Returns three significant digits of a number.
@@ -120,8 +140,8 @@ fn measure_bits(table: &mut Table, len: usize) {
     table.build(
         "`from_bit_vec`, a bit",
         len,
-        || vers_vecs::RsVec::from_bit_vec(our_bits.clone()),
-        || original::RsVec::from_bit_vec(their_bits.clone()),
+        (|| our_bits.clone(), vers_vecs::RsVec::from_bit_vec),
+        (|| their_bits.clone(), original::RsVec::from_bit_vec),
     );
     let ours = vers_vecs::RsVec::from_bit_vec(our_bits);
     let theirs = original::RsVec::from_bit_vec(their_bits);
@@ -141,8 +161,8 @@ fn measure_sorted(table: &mut Table, len: usize) {
     table.build(
         "`from_slice`, an element",
         len,
-        || vers_vecs::EliasFanoVec::from_slice(&members),
-        || original::EliasFanoVec::from_slice(&members),
+        (|| &members, |it| vers_vecs::EliasFanoVec::from_slice(it)),
+        (|| &members, |it| original::EliasFanoVec::from_slice(it)),
     );
     let ours = vers_vecs::EliasFanoVec::from_slice(&members);
     let theirs = original::EliasFanoVec::from_slice(&members);
@@ -176,8 +196,8 @@ fn measure_symbols(table: &mut Table, len: usize) {
     table.build(
         "`from_slice`, a symbol",
         len,
-        || vers_vecs::WaveletMatrix::from_slice(&items, 8),
-        || original::WaveletMatrix::from_slice(&items, 8),
+        (|| &items, |it| vers_vecs::WaveletMatrix::from_slice(it, 8)),
+        (|| &items, |it| original::WaveletMatrix::from_slice(it, 8)),
     );
     let ours = vers_vecs::WaveletMatrix::from_slice(&items, 8);
     let theirs = original::WaveletMatrix::from_slice(&items, 8);
@@ -214,8 +234,8 @@ fn measure_minima(table: &mut Table, len: usize) {
     table.build(
         "`from_vec`, an item",
         len,
-        || vers_vecs::FastRmq::from_vec(items.clone()),
-        || original::FastRmq::from_vec(items.clone()),
+        (|| items.clone(), vers_vecs::FastRmq::from_vec),
+        (|| items.clone(), original::FastRmq::from_vec),
     );
     let ours = vers_vecs::FastRmq::from_vec(items.clone());
     let theirs = original::FastRmq::from_vec(items);
@@ -243,8 +263,8 @@ fn measure_trees(table: &mut Table, nodes: usize) {
     table.build(
         "`from_bit_vector`, a bit",
         2 * nodes,
-        || <vers_vecs::BpTree>::from_bit_vector(our_bits.clone()),
-        || <original::BpTree>::from_bit_vector(their_bits.clone()),
+        (|| our_bits.clone(), <vers_vecs::BpTree>::from_bit_vector),
+        (|| their_bits.clone(), <original::BpTree>::from_bit_vector),
     );
     let ours = <vers_vecs::BpTree>::from_bit_vector(our_bits);
     let theirs = <original::BpTree>::from_bit_vector(their_bits);
