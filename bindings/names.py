@@ -61,7 +61,7 @@ NAMES = {
     "EliasFanoVec.select": dict.fromkeys(LANGUAGES, "get"),
     "SparseRSVec.is_set BitVec.is_bit_set": {"C": "get", "C++": "get", "Python": "get"},
     "TextIndex.bits_per_symbol": {"C": "width", "C++": "width"},
-    "TextIndex.contains": {"C": "count", "Python": "in"},
+    "TextIndex.contains": {"Python": "in"},
     "TextIndex.places_ascending": dict.fromkeys(LANGUAGES, "places"),
     "WaveletMatrix.get_sorted_u64": {"C": "quantile", "C++": "quantile", "Python": "quantile"},
     "WaveletMatrix.rank_offset_u64": {"C": "rank_range", "C++": "rank_range", "Python": "rank_range"},
@@ -193,7 +193,7 @@ def main():
                 rows += f"| `{call}` | {' | '.join(shown(structure, *it) for it in row.items())} |\n"
         text += f"\n## `{structure}`: `vers_{STRUCTURES[structure][0]}_`\n\n{textwrap.fill(', '.join(same), 120)}\n"
         text += f"\n| Call | {' | '.join(LANGUAGES)} |\n|---|{'---|' * len(LANGUAGES)}\n{rows}"
-    text += "\n## Left out of C, C++ and Python\n\nThe Rust crate has those of vers-vecs.\n\n| Reason | Calls |\n|---|---|\n"
+    text += "\n## Left out of C, C++ and Python\n\nThe Rust crate has those of vers-vecs; C++ also has `from_bits`, and Python `iter0`, `iter1`, `children` and `dfs_iter`.\n\n| Reason | Calls |\n|---|---|\n"
     text += "| Each call tests its arguments. | those whose names end in `_unchecked` or `_counted` |\n"
     text += "| A tree is made from a growing list of bits, or from words. | `BpBuilder` |\n"
     text += "".join(f"| {reason} | {', '.join(names)} |\n" for reason, names in left.items())

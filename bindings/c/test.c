@@ -179,7 +179,7 @@ static void test_statuses(void) {
     found("empty", 0, vers_bits_len(&list), 0);
     vers_bits_free(&list);
     static const char *const words[] = {
-        "done", "no such thing", "no such query", "is empty", "refused", "already", "no memory", "another handle",
+        "done", "no such element", "no such query", "is empty", "refused", "already", "no memory", "another handle",
         "cut off", "begin as", "another version", "another kind", "as long", "the sum", "past the end", "ascend",
         "no text", "no status", "no status",
     };

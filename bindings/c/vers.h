@@ -11,8 +11,8 @@
  *      vers_answer ones = vers_bits_rank1(&bits, 1000);   // ones.value, if ones.status is VERS_DONE
  *      vers_bits_free(&bits);                             // all zeros again
  *
- *  Statuses. The comment of a call names the statuses that it returns besides VERS_DONE. All queries of an empty handle
- *  return VERS_VACANT.
+ *  Statuses. The comment of a call names the statuses that it returns besides VERS_DONE. Queries, changes and saves of an
+ *  empty handle return VERS_VACANT; calls that fill another handle from an empty one return VERS_REFUSED.
  *
  *  Memory. A list copies the arrays that it is made from, so the caller may change or free them when the call returns.
  *  Only `_free` frees what a call has put into a handle, such as `_of`, `_load`, `_clone`, `_union` or `_places`.
@@ -64,7 +64,7 @@ enum vers_status {
     VERS_NOT_OURS = 9,       /**< The bytes do not begin as a saved form does. */
     VERS_OTHER_VERSION = 10, /**< The saved form is of another version. */
     VERS_OTHER_KIND = 11,    /**< The bytes are the saved form of another kind of list. */
-    VERS_BAD_LENGTH = 12,    /**< No such list is as long, or the bytes go on after it. */
+    VERS_BAD_LENGTH = 12,    /**< No list of this kind has that length, or more bytes follow. */
     VERS_BAD_SUM = 13,       /**< The sum is not that of the bytes before it. */
     VERS_BAD_PADDING = 14,   /**< A bit is set past the end of the list. */
     VERS_NOT_ASCENDING = 15, /**< The numbers do not ascend as those of the list do. */
@@ -339,8 +339,8 @@ static inline uint64_t vers_value_or(vers_answer answer, uint64_t other) {
 /** Returns the text of a status. */
 static inline const char *vers_status_text(uint32_t status) {
     static const char *const texts[] = {
-        "done", "there is no such thing", "the list has no such query or change", "the handle is empty",
-        "the numbers are refused", "the handle already has a list",
+        "done", "there is no such element", "the list has no such query or change", "the handle is empty",
+        "the arguments are refused", "the handle already has a list",
         "there is no memory, or the list would be too long", "the list has another handle, so it can't change",
         "the bytes are no saved form, or are cut off", "the bytes do not begin as a saved form does",
         "the saved form is of another version", "the saved form is of another kind of list",
@@ -790,7 +790,7 @@ static inline vers_answer vers_sorted_delta(const vers_sorted *list, uint64_t po
 }
 
 /** Puts the elements of two lists that `joint` names, without repeats, into an empty third handle. The two may be one.
- * VERS_REFUSED if one of them is empty, VERS_OCCUPIED, VERS_NO_MEMORY. */
+ * VERS_REFUSED if one of the two handles is empty, VERS_OCCUPIED, VERS_NO_MEMORY. */
 static inline uint32_t vers_sorted_combined(const vers_sorted *one, const vers_sorted *two, enum vers_joint joint,
                                             vers_sorted *into) {
     vers_handle *first = vers_held(&one->handle), *second = vers_held(&two->handle), other = {false, NULL};
@@ -1294,12 +1294,14 @@ static inline vers_answer vers_tree_excess(const vers_tree *list, uint64_t posit
     return vers_asked(&list->handle, VERS_EXCESS, position, 0, 0);
 }
 
-/** Returns the position that closes what opens at a position. VERS_ABSENT if there is none. */
+/** Returns the position that closes what opens at a position, or, for one that closes, at which the pair around it
+ * closes. VERS_ABSENT if there is none. */
 static inline vers_answer vers_tree_close(const vers_tree *list, uint64_t position) {
     return vers_quick_tree_close(vers_held(&list->handle), position);
 }
 
-/** Returns the position that opens what closes at a position. VERS_ABSENT if there is none. */
+/** Returns the position that opens what closes at a position, or, for one that opens, its parent. VERS_ABSENT if there
+ * is none. */
 static inline vers_answer vers_tree_open(const vers_tree *list, uint64_t position) {
     return vers_asked(&list->handle, VERS_OPEN, position, 0, 0);
 }
@@ -1321,7 +1323,8 @@ static inline vers_answer vers_tree_fwd_search(const vers_tree *list, uint64_t p
     return vers_asked(&list->handle, VERS_FWD_SEARCH, position, (uint64_t)rise, 0);
 }
 
-/** Returns the last position before `position` before which the excess is `rise` more. VERS_ABSENT if there is none. */
+/** Returns the last position before `position` before which the excess is `rise` more. VERS_ABSENT if there is none, or
+ * `position` is past the end. */
 static inline vers_answer vers_tree_bwd_search(const vers_tree *list, uint64_t position, int64_t rise) {
     return vers_asked(&list->handle, VERS_BWD_SEARCH, position, (uint64_t)rise, 0);
 }
@@ -1565,7 +1568,7 @@ static inline uint32_t vers_numbers_copy(const vers_numbers *list, uint64_t *num
 }
 
 /** Puts the documents that two lists share, ascending, into an empty third handle. The two may be one. VERS_REFUSED
- * if one of them is empty, VERS_OCCUPIED, VERS_NO_MEMORY. */
+ * if one of the two handles is empty, VERS_OCCUPIED, VERS_NO_MEMORY. */
 static inline uint32_t vers_postings_intersect(const vers_postings *one, const vers_postings *two,
                                                vers_numbers *into) {
     vers_handle *first = vers_held(&one->handle), *second = vers_held(&two->handle), other = {false, NULL};
@@ -1753,7 +1756,7 @@ typedef struct vers_text {
 } vers_text;
 
 /** Makes the text of `count` symbols of `width` bits, with a sample at every `step`-th position: locating
- * an occurrence takes fewer than `step` steps. VERS_REFUSED if a symbol has more bits than `width`, `width` is 0 or
+ * an occurrence takes fewer than `step` LF steps. VERS_REFUSED if a symbol has more bits than `width`, `width` is 0 or
  * above 16, `step` is 0, or the symbols are more than 2^32 - 2. VERS_OCCUPIED, VERS_NO_MEMORY. */
 static inline uint32_t vers_text_of(vers_text *text, const uint64_t *symbols, size_t count, uint32_t width,
                                     size_t step) {
@@ -1797,8 +1800,8 @@ static inline uint32_t vers_text_save(const vers_text *text, uint8_t *bytes, siz
     return vers_saved(&text->handle, bytes, count);
 }
 
-/** Makes the text of which bytes are the saved form, without sorting it again. Where they are of no such text, the
- * status says why, as at vers_load. VERS_OCCUPIED, VERS_NO_MEMORY. */
+/** Makes the text from its saved form, without a sort. For other bytes the status names the test that fails, as for
+ * vers_load. VERS_OCCUPIED, VERS_NO_MEMORY. */
 static inline uint32_t vers_text_load(vers_text *text, const uint8_t *bytes, size_t count) {
     return vers_loaded(VERS_KIND_TEXT, bytes, count, &text->handle);
 }
@@ -1856,7 +1859,8 @@ static inline uint32_t vers_text_places(const vers_text *text, const uint64_t *p
 }
 
 /** Puts the first `limit` positions of a pattern, or all if there are fewer, into an empty other handle, in the
- * order of the suffixes that begin there: in less time than all of them take. VERS_OCCUPIED, VERS_NO_MEMORY. */
+ * order of the suffixes that begin there: in less time than all of them take. VERS_REFUSED if the first handle is
+ * empty, VERS_OCCUPIED, VERS_NO_MEMORY. */
 static inline uint32_t vers_text_first_places(const vers_text *text, const uint64_t *pattern, size_t count,
                                               size_t limit, vers_numbers *into) {
     if (vers_is_missing(pattern, count)) return VERS_REFUSED;

@@ -273,7 +273,7 @@ static void test_sorted() {
     }
     Status status;
     check("status", !vers::EliasFanoVec::from(Numbers({2, 1}).data(), 2, status) && status == Status::refused);
-    check("text", std::string(vers::text(status)) == "the numbers are refused");
+    check("text", std::string(vers::text(status)) == "the arguments are refused");
     test_form(*list);
     test_owner(list->clone());
 }

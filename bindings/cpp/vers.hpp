@@ -17,7 +17,8 @@
  *  throw only what an iterator throws, and set the status to the reason if there is no list.
  *  Null is accepted with length 0. Null with another length is refused, or the list owns nothing. An array of 64-bit
  *  numbers is read without a copy. Iterators and ranges are over unsigned integers, those of `from_bits` over
- *  integers or truth values: others, and the characters of a text, don't compile.
+ *  integers or truth values: other items don't compile. Only a WaveletMatrix, a TextIndex and its patterns
+ *  take characters, as bytes.
  *
  *  Patterns. That of a TextIndex is a pointer and a length, or such a range.
  *
@@ -874,7 +875,8 @@ public:
         if (!value) return std::nullopt;
         return vers_signed(*value);
     }
-    /** Returns the position that closes what opens at a position, or opens what closes there. */
+    /** Returns the position that closes what opens at a position, or opens what closes there. For the other parenthesis,
+     *  that of the pair around it. */
     Found close(std::uint64_t position) const noexcept { return detail::found(vers_tree_close(&raw_, position)); }
     Found open(std::uint64_t position) const noexcept { return find(VERS_OPEN, position); }
     /** Returns the position at which the nearest pair around a position opens. */

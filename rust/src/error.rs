@@ -13,7 +13,7 @@ use std::fmt;
 ///
 /// let error = EliasFanoVec::try_from_slice(&[3, 8, 5]).unwrap_err();
 /// assert_eq!(error, BuildError::NotAscending { position: 2 });
-/// assert_eq!(error.to_string(), "the numbers must ascend, and the one at position 2 doesn't");
+/// assert_eq!(error.to_string(), "the numbers must ascend, and the one at position 2 isn't above the one before it");
 /// ```
 #[derive(Clone, Copy, PartialEq, Eq, Hash, Debug)]
 #[non_exhaustive]
@@ -54,7 +54,7 @@ impl fmt::Display for BuildError {
     fn fmt(&self, f: &mut fmt::Formatter<'_>) -> fmt::Result {
         match self {
             BuildError::NotAscending { position } => {
-                write!(f, "the numbers must ascend, and the one at position {} doesn't", position)
+                write!(f, "the numbers must ascend, and the one at position {} isn't above the one before it", position)
             }
             BuildError::OutOfRange { position } => {
                 write!(f, "the number at position {} is not below its limit", position)

@@ -236,7 +236,11 @@ impl Default for InvertedIndex {
 
 impl fmt::Debug for InvertedIndex {
     fn fmt(&self, f: &mut fmt::Formatter<'_>) -> fmt::Result {
-        f.debug_struct("InvertedIndex").field("terms", &self.terms()).field("universe", &self.universe()).finish()
+        f.debug_struct("InvertedIndex")
+            .field("len", &self.len())
+            .field("terms", &self.terms())
+            .field("universe", &self.universe())
+            .finish()
     }
 }
 

@@ -159,7 +159,8 @@ def symbols_case(engine, folder, cuts):
 def texts_case(engine, folder, cuts):
     overlap, width = RANDOM.randrange(6), RANDOM.choice([2, 8, 16])
     text = RANDOM.choices(range(RANDOM.randrange(1, 4)), k=cuts[-1])
-    made = [vers.WaveletMatrix(text[start:end + overlap], width) for start, end in zip(cuts, cuts[1:])]
+    made = [RANDOM.choice([vers.WaveletMatrix, vers.TextIndex])(text[start:end + overlap], width)
+            for start, end in zip(cuts, cuts[1:])]
     # documents begin anywhere, two of them at one position, and the first one not always at 0
     begins = sorted(RANDOM.choices(range(len(text) + 1), k=1 + len(text) // 6))
     of_parts = [[it - start for it in begins if start <= it < end + overlap] for start, end in zip(cuts, cuts[1:])]

@@ -487,6 +487,8 @@ class Owners(unittest.TestCase):
                         vers.TextIndex([3, 3], 2).extract(0, 2)):
             again = pickle.loads(pickle.dumps(numbers))
             self.assertEqual((type(again), list(again)), (vers.PlainNumbers, list(numbers)))
+        last = vers.TextIndex(b"a" * 65540, 8).first_places(b"a", 5)
+        self.assertEqual(list(pickle.loads(pickle.dumps(last))), [65539, 65538, 65537, 65536, 65535])
         with self.assertRaises(TypeError):
             vers.PlainNumbers.from_bytes(b"")
 

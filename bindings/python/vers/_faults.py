@@ -48,7 +48,7 @@ class OtherKind(Refused):
 
 
 class BadLength(Refused):
-    """No such list is as long, or the bytes go on after it."""
+    """No list of this kind has that length, or more bytes follow."""
 
 
 class BadSum(Refused):

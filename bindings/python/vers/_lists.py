@@ -409,8 +409,8 @@ class EliasFanoVec(Ascending[_SortedQuery]):
 
 
 class WaveletMatrix(Fixed[_SymbolsQuery]):
-    """Symbols, which are numbers of `bits_per_symbol` bits, at most 64. Ranges exclude their end. A query takes the low
-    bits of a symbol that is wider."""
+    """Symbols, which are numbers of `bits_per_symbol` bits, at most 64. Ranges exclude their end; a query of one that ends
+    past the last symbol returns None. A query takes the low bits of a symbol that is wider."""
 
     _items = "symbols"
     _kind = codes.KIND_SYMBOLS
@@ -465,8 +465,8 @@ class WaveletMatrix(Fixed[_SymbolsQuery]):
 
     @query(codes.RANK_RANGE, True)
     def rank_range(self, start: int, end: int, symbol: int) -> Optional[int]:
-        """Returns how often a symbol occurs in a range. None if the range starts past the last position, or ends before
-        it starts."""
+        """Returns how often a symbol occurs in a range. None if the range starts or ends past the end, or ends before it
+        starts."""
         return self._find_by(codes.RANK_RANGE, start, end, symbol)
 
     @query(codes.SELECT_OF, True)
@@ -477,7 +477,8 @@ class WaveletMatrix(Fixed[_SymbolsQuery]):
 
     @query(codes.SELECT_FROM, True)
     def select_offset(self, offset: int, number: int, symbol: int) -> Optional[int]:
-        """Returns the position of occurrence `number` of a symbol among the positions from `offset` on."""
+        """Returns the position of occurrence `number` of a symbol among the positions from `offset` on. None if there
+        are fewer."""
         return self._find_by(codes.SELECT_FROM, offset, number, symbol)
 
     @query(codes.QUANTILE)
@@ -546,14 +547,14 @@ class PlainNumbers(Ascending[_NumbersQuery]):
         return _plain_again, (self[:],)
 
 
-def _plain_again(numbers: Any) -> PlainNumbers:
-    """Returns numbers as a call returned them: documents and positions, which ascend strictly, or symbols of a text."""
+def _plain_again(numbers: Any) -> Any:
+    """Returns numbers as a call returned them: documents and positions, which ascend strictly, or symbols of a text. Those
+    of `first_places`, in neither order nor width, are the array that they are pickled as."""
     try:
         same = Postings(numbers)
     except Refused:
-        return TextIndex(numbers, 16, len(numbers)).extract(0, len(numbers))
-    made: PlainNumbers = same.intersect(same)
-    return made
+        return numbers if max(numbers) >> 16 else TextIndex(numbers, 16, len(numbers)).extract(0, len(numbers))
+    return same.intersect(same)
 
 
 class BpTree(Shared[_TreeQuery]):
@@ -625,12 +626,14 @@ class BpTree(Shared[_TreeQuery]):
 
     @query(codes.CLOSE, True)
     def close(self, position: int) -> Optional[int]:
-        """Returns the position that closes the parenthesis that opens at a position. None if there is none."""
+        """Returns the position that closes the parenthesis that opens at a position; for one that closes, the position
+        that closes the pair around it. None if there is none."""
         return self._find(codes.CLOSE, position)
 
     @query(codes.OPEN, True)
     def open(self, position: int) -> Optional[int]:
-        """Returns the position that opens the parenthesis that closes at a position. None if there is none."""
+        """Returns the position that opens the parenthesis that closes at a position; for one that opens, its parent. None
+        if there is none."""
         return self._find(codes.OPEN, position)
 
     @query(codes.ENCLOSE, True)
@@ -651,7 +654,7 @@ class BpTree(Shared[_TreeQuery]):
 
     def bwd_search(self, position: int, rise: int) -> Optional[int]:
         """Returns the last position before `position` before which the excess is `rise` more, which may be negative. None
-        if there is none."""
+        if there is none, or `position` is past the end."""
         return self._search(codes.BWD_SEARCH, position, rise)
 
     def _search(self, code: int, position: int, rise: int) -> Optional[int]:

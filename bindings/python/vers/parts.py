@@ -534,9 +534,9 @@ def _by_document(part: _Part, expected: bytes, starts: _Part, starts_sum: bytes,
 
 
 class Texts:
-    """A text in parts. Each is a saved `WaveletMatrix` of its own symbols and of the `overlap` symbols that follow, or
-    of all that follow if they are fewer: `text[start:end + overlap]`. A worker makes the `TextIndex`, which keeps one
-    position for each `step`. A query asks all parts.
+    """A text in parts. Each is a saved `TextIndex` of its own symbols and of the `overlap` symbols that follow, or of all
+    that follow if they are fewer: `text[start:end + overlap]`. Of a saved `WaveletMatrix` of these symbols a worker makes
+    the index, which keeps one position for each `step`. A query asks all parts.
 
     `documents` are paths as well: for each part a saved `EliasFanoVec` of the positions in it, the overlap included, at
     which a document begins."""

@@ -7,7 +7,7 @@ use std::alloc::AllocError;
 /// Why an inverted index was not made: the first reason that applies.
 #[derive(Clone, Copy, PartialEq, Eq, Debug, Drop)]
 pub enum InvertedError {
-    /// The number of terms times the limit of documents doesn't fit 64 bits.
+    /// The number of terms times the limit of documents doesn't fit in 64 bits.
     TooLarge,
     /// A term or a document is not below its limit.
     OutOfRange,

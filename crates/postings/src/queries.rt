@@ -100,8 +100,8 @@ impl<A: Allocator + Copy> Postings<A> {
         self.intersect_counted(other, &mut tally)
     }
 
-    /// Returns `intersect(other)`. Reads at most what one search in the longer list does for each document of
-    /// the shorter.
+    /// Returns `intersect(other)`. Reads at most, for each document of the shorter list, that document and
+    /// what one search in the longer list does.
     pub fn intersect_counted(
         &self,
         other: &Postings<A>,

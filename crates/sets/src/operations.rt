@@ -1,4 +1,5 @@
-//! Intersections, unions and differences of ascending lists. Equal elements count once.
+//! Intersections, unions and differences of ascending lists. Equal elements count once. Errors of the forms
+//! `_counted`: `AllocError` only if the allocator refuses a request.
 ghost use Rattle.std.specs.Prelude.{◌≡◌, ◌+◌, ◌∷◌, IfOk, length, map, min};
 ghost use Rattle.std.specs.List.{sum_by};
 ghost use Rattle.vers_tally.specs.Reads.{AddsAtMost, plus, times};

@@ -222,7 +222,7 @@ impl<A: Allocator + Copy> SparseRSVec<A> {
         }
     }
 
-    /// Returns the number of ones below `position`.
+    /// Returns the number of ones below `position`; all ones if `position` is past the end.
     #[inline]
     pub fn rank1(&self, position: u64) -> u64
         ensures value { result ≡ count true self.now position }
@@ -243,7 +243,7 @@ impl<A: Allocator + Copy> SparseRSVec<A> {
         self.ones.rank_counted(position, tally)
     }
 
-    /// Returns the number of zeros below `position`.
+    /// Returns the number of zeros below `position`; all zeros if `position` is past the end.
     #[inline]
     pub fn rank0(&self, position: u64) -> u64
         ensures value { result ≡ count false self.now position }

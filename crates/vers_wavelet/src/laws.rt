@@ -32,7 +32,7 @@ pub fn greatest_up_to_is_predecessor()
     ensures { GreatestUpToIsPredecessor }
 {}
 
-/// There is a greatest element up to a number if some element is at most the number.
+/// There is a greatest element up to a number exactly if some element is at most the number.
 #[tactic(auto, using(crate::proofs::Nearest::greatest_up_to_some))]
 pub fn some_elements_are_up_to()
     ensures { SomeElementsAreUpTo }
@@ -44,7 +44,7 @@ pub fn least_from_is_successor()
     ensures { LeastFromIsSuccessor }
 {}
 
-/// There is a least element from a number on if some element is at least the number.
+/// There is a least element from a number on exactly if some element is at least the number.
 #[tactic(auto, using(crate::proofs::Nearest::least_from_some))]
 pub fn some_elements_are_from()
     ensures { SomeElementsAreFrom }

@@ -77,6 +77,9 @@ macro_rules! makers {
         impl BitVec {
             $(
                 $(#[$doc])*
+                ///
+                /// # Panics
+                /// If the list would be too long, or there is no memory.
                 #[doc = contract!(BitVec::$name)]
                 #[must_use]
                 #[track_caller]
@@ -112,6 +115,9 @@ macro_rules! makers_from_iterators {
         impl BitVec {
             $(
                 $(#[$doc])*
+                ///
+                /// # Panics
+                /// If the list would be too long, or there is no memory.
                 #[doc = contract!(BitVec::$name)]
                 #[track_caller]
                 pub fn $name<I: IntoIterator<Item = $item>>($arg: I $(, $k: $size)?) -> Self {
@@ -336,7 +342,7 @@ impl BitVec {
     /// If `position` is past the end; nothing changes then.
     #[doc = contract!(BitVec::set)]
     #[inline]
-    pub fn set(&mut self, position: usize, value: u64) -> Result<(), &str> {
+    pub fn set(&mut self, position: usize, value: u64) -> Result<(), &'static str> {
         self.bits.set(position, value).map_err(|_| "out of range")
     }
 

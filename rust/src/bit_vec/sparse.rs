@@ -118,7 +118,7 @@ impl SparseRSVec {
         self.bits.select1(r)
     }
 
-    /// Returns the number of ones before `position`.
+    /// Returns the number of ones before `position`, or in the whole list past the end.
     #[doc = contract!(SparseRSVec::rank1)]
     #[must_use]
     #[inline]

@@ -17,7 +17,7 @@ fn bounds(range: impl RangeBounds<usize>, len: usize) -> (usize, usize) {
     };
     let last = match range.end_bound() {
         Bound::Included(&position) => position,
-        Bound::Excluded(&position) => position.checked_sub(1).expect("the range is empty"),
+        Bound::Excluded(&position) => position.checked_sub(1).expect("the range to position 0 is empty"),
         Bound::Unbounded => len - 1,
     };
     (first.min(len - 1), last.min(len - 1))
@@ -68,7 +68,7 @@ macro_rules! minima {
             }
 
             /// Returns the first position of a least value of a range, in O(1). A bound past the end means the last
-            /// position.
+            /// position, so a range that begins there has that position, even if it is empty or reversed.
             ///
             /// # Panics
             /// If there are no values, or the range is empty.

@@ -80,14 +80,16 @@ impl<const BLOCK_SIZE: usize> BpTree<BLOCK_SIZE> {
     }
 
     /// Returns the last position before `i` before which the excess is `r` more than before `i`. `None` if there is
-    /// none. O(log `len`).
+    /// none, or `i` is past the end. O(log `len`).
     #[doc = contract!(BpTree::bwd_search)]
     #[inline]
     pub fn bwd_search(&self, i: usize, r: i64) -> Option<usize> {
         self.tree.bwd_search(i, r)
     }
 
-    /// Returns the position of the zero that closes the one at `i`, or `None` if there is none. O(log `len`).
+    /// Returns the first position after `i` up to which the excess is one less than up to `i`: for a one, the zero that
+    /// closes it, and for a zero, in balanced parentheses, the position at which the pair around it closes. `None` if
+    /// there is none. O(log `len`).
     #[doc = contract!(BpTree::close)]
     #[must_use]
     #[inline]
@@ -95,8 +97,8 @@ impl<const BLOCK_SIZE: usize> BpTree<BLOCK_SIZE> {
         self.tree.close(i)
     }
 
-    /// Returns the position of the one that opens what the zero at `i` closes, or `None` if there is none. O(log
-    /// `len`).
+    /// Returns the last position before `i` before which the excess is one less than before `i`: for a zero, the one that
+    /// it closes, and for a one, in balanced parentheses, its parent. `None` if there is none. O(log `len`).
     #[doc = contract!(BpTree::open)]
     #[must_use]
     #[inline]
@@ -824,7 +826,7 @@ impl<const BLOCK_SIZE: usize> TreeBuilder for BpBuilder<BLOCK_SIZE> {
         granted(self.builder.enter_node());
     }
 
-    /// Leaves the node that was entered last and not left.
+    /// Leaves the node that was entered last and not left. If there is none, the parentheses aren't balanced.
     ///
     /// # Panics
     /// If there is no memory.
@@ -838,6 +840,7 @@ impl<const BLOCK_SIZE: usize> TreeBuilder for BpBuilder<BLOCK_SIZE> {
     ///
     /// # Errors
     /// If nodes were entered and left unequally often: how many more were entered, or below 0 how many more were left.
+    /// A node that is left before it is entered is no error: [`is_balanced`](BpTree::is_balanced) returns false then.
     ///
     /// # Panics
     /// If there is no memory for the index.

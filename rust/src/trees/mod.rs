@@ -106,7 +106,7 @@ pub trait TreeBuilder {
     #[doc = contract!(TreeBuilder::enter_node)]
     fn enter_node(&mut self);
 
-    /// Leaves the node that was entered last and not left.
+    /// Leaves the node that was entered last and not left. If there is none, the parentheses aren't balanced.
     #[doc = contract!(TreeBuilder::leave_node)]
     fn leave_node(&mut self);
 

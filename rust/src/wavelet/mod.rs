@@ -370,7 +370,7 @@ impl WaveletMatrix {
     /// Returns the number of occurrences of a symbol in a range, from which positions past the end are left out.
     #[track_caller]
     fn ranked(&self, range: Range<usize>, symbol: &BitVec) -> usize {
-        assert!(range.start <= range.end, "the range is reversed");
+        assert!(range.start <= range.end, "the range from {} to {} is reversed", range.start, range.end);
         let range = range.start.min(self.len())..range.end.min(self.len());
         let found = if symbol.len() == self.bits_per_element() {
             self.symbols.rank_range(range, &symbol.bits)
@@ -384,7 +384,7 @@ impl WaveletMatrix {
     /// Returns the number of occurrences of a symbol in a range, from which positions past the end are left out.
     #[track_caller]
     fn ranked_u64(&self, range: Range<usize>, symbol: u64) -> usize {
-        assert!(range.start <= range.end, "the range is reversed");
+        assert!(range.start <= range.end, "the range from {} to {} is reversed", range.start, range.end);
         assert!(self.bits_per_element() <= 64, "a symbol has more than 64 bits");
         let range = range.start.min(self.len())..range.end.min(self.len());
         self.symbols.rank_range_u64(range, symbol).unwrap_or(0)
@@ -624,8 +624,8 @@ impl WaveletMatrix {
         self.symbols.gathered_u64(position, symbol)
     }
 
-    /// Returns the range of gathered positions of a symbol in a range. `None` if the list doesn't have the range, or
-    /// symbols have more than 64 bits.
+    /// Returns the range of gathered positions of a symbol in a range. `None` if the symbol doesn't occur in the range,
+    /// the list doesn't have the range, or symbols have more than 64 bits.
     #[doc = contract!(WaveletMatrix::gathered_range_u64)]
     #[must_use]
     #[inline]

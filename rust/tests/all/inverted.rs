@@ -118,6 +118,6 @@ fn sizes_and_debug() {
     let index = InvertedIndex::from_pairs(2, 9, &[(0, 4), (1, 3)]).unwrap();
     let numbers = EliasFanoVec::from_slice(&[4, 12]);
     assert_eq!(index.heap_size(), numbers.heap_size());
-    assert_eq!(format!("{:?}", index), "InvertedIndex { terms: 2, universe: 9 }");
+    assert_eq!(format!("{:?}", index), "InvertedIndex { len: 2, terms: 2, universe: 9 }");
     assert_eq!(format!("{:?}", index.documents(0)), "Documents { left: 1 }");
 }

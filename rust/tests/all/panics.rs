@@ -107,7 +107,7 @@ fn indexed_bits_stop() {
         "no 2 bits from 69 on": bits.get_bits_unchecked(69, 2);
         "no 65 bits from 0 on": bits.get_bits_unchecked(0, 65);
         "bits from": bits.get_bits_unchecked(FAR, 64);
-        "must ascend, and the one at position 1 doesn't": SparseRSVec::new(&[5, 5], 10);
+        "must ascend, and the one at position 1 isn't above the one before it": SparseRSVec::new(&[5, 5], 10);
         "position 1 is not below its limit": SparseRSVec::new(&[5, 10], 10);
         "no number at 2": EliasFanoVec::from_slice(&[5, 5]).get_unchecked(2);
         "must ascend": EliasFanoVec::from_slice(&[5, 4]);
@@ -132,7 +132,7 @@ fn minima_stop() {
         "no range": binary.range_min_item_counted(0, 3, &mut tally);
         "no value at 3": binary.item_counted(3, &mut tally);
         "from 2 to 0 is empty": fast.range_min_with_range(2..1);
-        "the range is empty": binary.range_min_with_range(0..0);
+        "the range to position 0 is empty": binary.range_min_with_range(0..0);
         "from 2 to 0 is empty": fast.range_min_with_range_counted(2..1, &mut tally);
         "no values": BinaryRmq::default().range_min_with_range(..);
         "no values": FastRmq::default().range_min_with_range(0..=0);

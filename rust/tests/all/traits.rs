@@ -203,7 +203,10 @@ type BitMask = bit_vec::BitMask<'static, 'static>;
 #[test]
 fn errors_say_what_is_wrong() {
     let rows: [(Box<dyn Error + Send + Sync>, &str); 21] = [
-        (Box::new(BuildError::NotAscending { position: 3 }), "must ascend, and the one at position 3 doesn't"),
+        (
+            Box::new(BuildError::NotAscending { position: 3 }),
+            "ascend, and the one at position 3 isn't above the one before it",
+        ),
         (Box::new(BuildError::OutOfRange { position: 3 }), "at position 3 is not below its limit"),
         (Box::new(BuildError::SymbolTooWide { position: 3 }), "at position 3 has more bits than a symbol"),
         (Box::new(BuildError::UnsupportedWidth { bits: 3 }), "can't have 3 bits"),

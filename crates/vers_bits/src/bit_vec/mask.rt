@@ -212,8 +212,8 @@ impl<A: Allocator + Copy> BitVec<A> {
         cut(&mut self.data, self.len);
     }
 
-    /// Returns both lists combined through a closure on their limbs. Errors: `LengthMismatch` if their lengths
-    /// differ.
+    /// Returns both lists combined through a closure on their limbs. Precondition: the closure may be called on
+    /// every pair of limbs. Errors: `LengthMismatch` if their lengths differ.
     pub fn mask_custom<'a, 'b, F: Fn(u64, u64) -> u64 + Drop>(
         &'a self,
         other: &'b BitVec<A>,
@@ -530,7 +530,8 @@ impl<A: Allocator + Copy> BitVec<A> {
     }
 
     /// Replaces each limb by what a function returns for both limbs, and clears the bits past the length.
-    /// Errors: `LengthMismatch` if the lengths differ; the list is then unchanged.
+    /// Precondition: the function may be called on every pair of limbs. Errors: `LengthMismatch` if the lengths
+    /// differ; the list is then unchanged.
     pub fn apply_mask_custom(
         &mut self,
         other: &BitVec<A>,

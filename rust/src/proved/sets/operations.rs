@@ -1,4 +1,5 @@
-//! Intersections, unions and differences of ascending lists. Equal elements count once.
+//! Intersections, unions and differences of ascending lists. Equal elements count once. Errors of the forms
+//! `_counted`: `AllocError` only if the allocator refuses a request.
 
 use crate::rattle::prelude::*;
 

@@ -20,14 +20,14 @@ pub fn kth_by_size_is_item() {}
 /// element is above it.
 pub fn greatest_up_to_is_predecessor() {}
 
-/// There is a greatest element up to a number if some element is at most the number.
+/// There is a greatest element up to a number exactly if some element is at most the number.
 pub fn some_elements_are_up_to() {}
 
 /// The least element from a number on is the successor: an element that is at least the number, and no such element
 /// is below it.
 pub fn least_from_is_successor() {}
 
-/// There is a least element from a number on if some element is at least the number.
+/// There is a least element from a number on exactly if some element is at least the number.
 pub fn some_elements_are_from() {}
 
 /// A range's `i`-th smallest element is the one that at most `i` of its elements are below and more than `i` are

@@ -244,8 +244,8 @@ impl<A: Allocator + Copy> FastRmq<A> {
         self.least_up_to(from, j, tally).position
     }
 
-    /// Returns `range_min(i, j)`. Reads at most 18 items: at most 6 over more than one block, 8 over parts of
-    /// one block, and 16 in one part.
+    /// Returns `range_min(i, j)`. Reads at most 6 items over more than one block, 8 over parts of one block, and 16 in
+    /// one part; the contract allows 18.
     #[inline(always)]
     pub fn range_min_counted(&self, i: usize, j: usize, tally: &mut Tally) -> usize {
         if i / PART == j / PART {

@@ -163,8 +163,8 @@ impl<const BLOCK_SIZE: usize, A: Allocator + Copy> BpTree<BLOCK_SIZE, A> {
         self.fwd_search_counted(i, r, &mut tally)
     }
 
-    /// Returns `fwd_search(i, r)`. Reads at most two blocks, four nodes per level, and twice as many bits as a
-    /// block has.
+    /// Returns `fwd_search(i, r)`. Reads at most two blocks, four nodes per level and, as data words, twice the
+    /// bits of a block plus four.
     #[inline(always)]
     pub fn fwd_search_counted(&self, i: usize, r: i64, tally: &mut Tally) -> Option<usize> {
         self.searched().forward(i, r, tally)
@@ -178,8 +178,8 @@ impl<const BLOCK_SIZE: usize, A: Allocator + Copy> BpTree<BLOCK_SIZE, A> {
         self.bwd_search_counted(i, r, &mut tally)
     }
 
-    /// Returns `bwd_search(i, r)`. Reads at most two blocks, four nodes per level, and twice as many bits as a
-    /// block has.
+    /// Returns `bwd_search(i, r)`. Reads at most two blocks, four nodes per level and, as data words, twice the
+    /// bits of a block plus four.
     #[inline(always)]
     pub fn bwd_search_counted(&self, i: usize, r: i64, tally: &mut Tally) -> Option<usize> {
         self.searched().backward(i, r, tally)
