@@ -21,7 +21,7 @@ from ._lists import (
     TextIndex, WaveletMatrix, load,
 )
 
-__version__ = "0.30.0"
+__version__ = "0.31.0"
 
 __all__ = [
     "BadLength", "BadPadding", "BadSum", "BinaryRmq", "BitVec", "BpTree", "EliasFanoVec", "FastRmq", "InvertedIndex",

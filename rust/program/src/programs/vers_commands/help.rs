@@ -108,4 +108,4 @@ Prints the kind of the structure in FILE, its length, the bits of an element or 
 FILE.";
 
 /// Printed by `--version`.
-pub const VERSION: &str = "vers 0.30.0";
+pub const VERSION: &str = "vers 0.31.0";
